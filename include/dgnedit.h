@@ -65,8 +65,8 @@ typedef struct dgnedit_ended {
    of `file`, each where all of it has room there; a buffer that is too small stays as it was, the ending says how many bytes
    there are, and a second call with more room gives them.
 
-   Status 5 says that a file isn't handed in that the run comes to read, and 7 that there is no memory; both then hand out
-   nothing. */
+   Status 5 says that a file isn't handed in that the run comes to read: the text is the name of the first. 7 says that
+   there is no memory, and nothing is handed out. */
 dgnedit_ended dgnedit_run(const dgnedit_bytes *words, size_t word_count, const dgnedit_file *files, size_t file_count,
                           uint8_t *text, size_t text_room, uint8_t *file, size_t file_room);
 

@@ -14,7 +14,7 @@
 
 enum { ROOM = 1 << 20, SMALL = 3, THREADS = 4 };
 
-struct form { uint32_t status; const char *words[5]; };     /* the words end with a null */
+struct form { uint32_t status; const char *words[5], *missing; };       /* the words end with a null */
 
 static const struct form FORMS[] = {
     {0, {"edit", "IN", "SCRIPT", "OUT"}},
@@ -26,11 +26,16 @@ static const struct form FORMS[] = {
     {2, {0}},
     {3, {"edit", "IN", "BAD", "OUT"}},
     {4, {"edit", "TEXT", "SCRIPT", "OUT"}},
-    {5, {"edit", "IN", "MISSING", "OUT"}},
+    {5, {"check", "NOWHERE"}, "NOWHERE"},
+    {5, {"edit", "IN", "MISSING", "OUT"}, "MISSING"},
+    {5, {"pack", "IN", "IMPORTS", "OUT"}, "second.dgn"},
+    {5, {"apply", "IN", "NO-PATCH", "OUT"}, "NO-PATCH"},
     {10, {"apply", "IN", "TEXT", "OUT"}},
 };
 
-static dgnedit_file files[6];
+enum { FILES = 7 };
+
+static dgnedit_file files[FILES];
 static uint8_t *drawing, *script;
 
 static dgnedit_bytes text(const char *chars) { return (dgnedit_bytes){(const uint8_t *)chars, strlen(chars)}; }
@@ -51,12 +56,20 @@ static dgnedit_ended run(const char *const *words, const dgnedit_file *given, ui
     dgnedit_bytes list[5] = {text("")};
     size_t count = 0;
     for (; words[count] != NULL; count++) list[count] = text(words[count]);
-    dgnedit_ended small = dgnedit_run(list, count, given, 6, said, SMALL, made, SMALL);
-    dgnedit_ended ended = dgnedit_run(list, count, given, 6, said, ROOM, made, ROOM);
+    dgnedit_ended small = dgnedit_run(list, count, given, FILES, said, SMALL, made, SMALL);
+    dgnedit_ended ended = dgnedit_run(list, count, given, FILES, said, ROOM, made, ROOM);
     if (small.status != ended.status || small.text_length != ended.text_length
         || small.file_length != ended.file_length)
         *wrong = 1;
     return ended;
+}
+
+/* Whether a form ended as it should, with the name of the file that it lacks. */
+static bool ends_so(const struct form *form, dgnedit_ended ended, const uint8_t *said)
+{
+    if (ended.status != form->status) return false;
+    return form->missing == NULL
+        || (ended.text_length == strlen(form->missing) && memcmp(said, form->missing, ended.text_length) == 0);
 }
 
 /* All forms, and a patch file that is packed and applied. */
@@ -68,8 +81,8 @@ static void *run_all(void *out)
     uint8_t *said = malloc(ROOM), *made = malloc(ROOM), *patch = malloc(ROOM);
     if (said == NULL || made == NULL || patch == NULL) exit(2);
     for (size_t i = 0; i < sizeof FORMS / sizeof *FORMS; i++)
-        if (run(FORMS[i].words, files, said, made, wrong).status != FORMS[i].status) *wrong = 1;
-    dgnedit_file given[6];
+        if (!ends_so(&FORMS[i], run(FORMS[i].words, files, said, made, wrong), said)) *wrong = 1;
+    dgnedit_file given[FILES];
     memcpy(given, files, sizeof files);
     size_t length = run(PACK, files, said, made, wrong).file_length;
     memcpy(patch, made, length);
@@ -93,6 +106,7 @@ int main(int count, char **arguments)
     const char *refused = "import IN 5 5\nshow\nundo\nfence 0,0 9,0 9,9\nselect inside\nmove 9999 1 1\n";
     files[4] = (dgnedit_file){text("REFUSED"), text(refused)};
     files[5] = (dgnedit_file){text("EMPTY"), text("")};
+    files[6] = (dgnedit_file){text("IMPORTS"), text("import IN\nimport second.dgn\nimport third.dgn\n")};
     int wrong[THREADS + 1] = {0}, sum = 0;
     pthread_t threads[THREADS];
     run_all(&wrong[THREADS]);

@@ -96,7 +96,8 @@ function runWithin(module, words, files, rooms) {
 
 /**
  * Runs the program once. The words are those of its command line, as `['edit', 'IN', 'SCRIPT', 'OUT']`; the files are given
- * by the names that words and script use. A file that isn't there is status 5, and 7 says that there was no memory.
+ * by the names that words and script use. Status 5 says that a file isn't there, whose name is the text, and 7 that there
+ * was no memory.
  * @param {WebAssembly.Module} module
  * @param {string[]} words
  * @param {Map<string, Uint8Array>} files

@@ -154,7 +154,7 @@ export class Refusals {
         switch (status) {
             case 3: return 'Line ' + number + ' isn’t a command of a script: a word or a number is wrong, missing or'
                 + ' too many. Nothing was run.';
-            case 5: return 'A file that an import names isn’t there.';
+            case 5: return 'The file ‘' + last + '’ isn’t there, which an import names.';
             case 7: return 'There was not enough memory.';
             case 8: return 'The program says ‘' + last + '’: it is larger than the program can read.'
                 + (last === 'too long script' ? TOO_LONG : '');

@@ -28,5 +28,6 @@ pub use dgn_answers::{answer, answer_import};
 pub use dgn_generator::generate;
 pub use request::Request;
 pub use runs::run;
+pub use seconds::second_name;
 pub use status::Status;
 pub use words::run_flushed;

@@ -51,7 +51,7 @@ fn read_for<D: Desk>(
     let Command::Import(name, _) = command else {
         return Ok(());
     };
-    let second = read_named(alloc, desk, text_of(name))?;
+    let second = read_named(alloc, desk, second_name(name))?;
     let Ok(()) = seconds.push(second) else {
         return Err(End::Stopped(Stop::Memory));
     };
@@ -68,8 +68,9 @@ fn read_named<D: Desk>(alloc: Global, desk: &mut D, name: &str) -> Result<Second
     Ok(second)
 }
 
-// The name of a second file, as a desk is asked for it. Each name in a script is such a text.
-fn text_of(name: &ByteList) -> &str
+/// The name of a second file, as a desk is asked for it: the text that the bytes are. Each name in a script is one; empty
+/// for other bytes.
+pub fn second_name(name: &ByteList) -> &str
     ensures { result.now ≡ text_named name.now }
 {
     let bytes = name.as_slice();

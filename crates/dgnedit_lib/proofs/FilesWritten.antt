@@ -1,12 +1,11 @@
 -- Each outcome writes the file that the last of four words names, where it ends as done or with some refused, and else none.
-use Rattle.std.proofs.Common.{◌≡◌, ℕ, nat_lt, nat_le, Bool, true, false, ◌&&◌, not, if◌then◌else◌, List, [], ◌∷◌, length, codes}
+use Rattle.std.proofs.Common.{◌≡◌, ℕ, nat_lt, Bool, true, false, not, if◌then◌else◌, List, [], ◌∷◌, length, codes}
 use Rattle.std.proofs.Common.{Option, Some, None, option_map, Result, Ok, Err, refl, sym, ap, ◌∙◌, subst}
 use Rattle.std.specs.Str.{bytes_eq}
 use Rattle.dgn_desk.specs.Content.{Files}
 use Rattle.dgn_desk.specs.FileLaws.{get-with_file-same}
 use Rattle.elem_index.specs.Opened.{Opened}
 use Rattle.dgn_drawing.specs.Spelling.{spelling}
-use Rattle.edit_script.specs.Numbers.{number_within}
 use Rattle.patch_file.specs.Spelling.{Packed, patch_spelling}
 use Rattle.dgn_tool.specs.Applied.{patched, patched_outcome, put_from, Patched, Made, Differs, Overruns}
 use Rattle.dgn_tool.specs.Ended.{Outcome, ended}
@@ -16,13 +15,14 @@ use Rattle.patch_file.specs.declared.limits.TheConstants.{MOST_PATCH}
 use Rattle.dgn_tool.specs.Inputs.{Inputs, drawing_in, entries_in, inputs_in}
 use Rattle.dgn_tool.specs.Leaving.{files_after}
 use Rattle.dgn_tool.specs.Readings.{Source, Reading, at_once, behind_sources, ◌>>=◌, ended_by}
-use Rattle.dgn_tool.specs.Request.{Request, Edit, Check, Gen, Pack, Apply, request_of, four_words, edit_of, pack_of, gen_of, generation_of, apply_of}
+use Rattle.dgn_tool.specs.Request.{Request, Edit, Check, Gen, Pack, Apply, request_of, four_words}
 use Rattle.dgn_tool.specs.declared.status.Status.TheVariants as statuses
 use Rattle.dgn_tool.specs.Outcome.{outcome, outcome_of, checked, edited, usage_line}
 use Rattle.dgn_tool.specs.Packing.{packed, packed_after, filed_patch}
 use Rattle.dgn_answers.specs.Commands.{first_state}
 use Rattle.dgn_answers.specs.Steps.{Step, refused_count}
 use Rattle.dgn_tool.proofs.EarlyEnds.{IsEarly, EndsEarly, drawing_early, inputs_early, entries_early}
+use Rattle.dgnedit_lib.proofs.Forms.{either, of_four}
 use Rattle.dgnedit_lib.specs.Writing.{last_of_four, has_written, name_written, bytes_at}
 
 -- an outcome that writes the file of this name where it has written one, if there is a name
@@ -32,11 +32,6 @@ record WritesAt (name : Option (List ℕ)) (o : Outcome) : Type 0 where
 -- an ending that says a line writes nothing
 said : (name : Option (List ℕ)) (status : Status) (line : List ℕ) → has_written status ≡ false → WritesAt name (ended status line)
 said name status line not = record { writes = sym (ap (λ w. name_written w name) not) }
-
--- whichever of two it is
-either : (name : Option (List ℕ)) (b : Bool) (x y : Outcome) → WritesAt name x → WritesAt name y → WritesAt name (if b then x else y)
-either name true x y is_x is_y = is_x
-either name false x y is_x is_y = is_y
 
 -- no outcome with which reading ends a run has written
 unwritten : (status : Status) → IsEarly status → has_written status ≡ false
@@ -67,7 +62,7 @@ edited_writes d gs output = record { writes = sym (ap (λ w. name_written w (Som
 
 packed_writes : (d : Opened) (gs : List Step) (patch : List ℕ) → WritesAt (Some patch) (packed d gs patch)
 packed_writes d gs patch =
-    either (Some patch) (nat_lt MOST_PATCH (length (patch_spelling (packed_after gs (first_state d))))) (ended statuses.TooLong (codes "too long patch\n"))
+    either (WritesAt (Some patch)) (nat_lt MOST_PATCH (length (patch_spelling (packed_after gs (first_state d))))) (ended statuses.TooLong (codes "too long patch\n"))
     (filed_patch (packed_after gs (first_state d)) (refused_count gs (first_state d)) patch) (said (Some patch) statuses.TooLong _ refl)
     (record { writes = sym (ap (λ w. name_written w (Some patch)) (ends_written (nat_lt 0 (refused_count gs (first_state d))))) })
 
@@ -114,39 +109,13 @@ request_writes (Some (Apply input patch output)) name files names =
     (λ d. read_writes (Some output) entries.sources entries.answer (λ es. at_once (Ok (patched d es output))) (entries_early files patch)
     (λ es. patched_writes d es output)))
 
--- whichever request it is
-either_names : (name : Option (List ℕ)) (b : Bool) (x y : Option Request) → Names x name → Names y name → Names (if b then x else y) name
-either_names name true x y is_x is_y = is_x
-either_names name false x y is_x is_y = is_y
-
-generation_names : (seed count : Option ℕ) (output : List ℕ) → Names (generation_of seed count output) (Some output)
-generation_names None count output = tt
-generation_names (Some seed) None output = tt
-generation_names (Some seed) (Some count) output =
-    either_names (Some output) (nat_le 1 count && nat_le count 200000) (Some (Gen seed count output)) None refl tt
-
--- what four words ask for that begin otherwise
-abbrev apply_or_gen : List ℕ → List ℕ → List ℕ → List ℕ → Option Request
-apply_or_gen a b c d = if bytes_eq a (codes "apply") then apply_of b c d else gen_of a b c d
-
-abbrev other_than_edit : List ℕ → List ℕ → List ℕ → List ℕ → Option Request
-other_than_edit a b c d = if bytes_eq a (codes "pack") then pack_of b c d else apply_or_gen a b c d
-
 four_name : (a b c d : List ℕ) → Names (four_words a b c d) (Some d)
-four_name a b c d =
-    either_names (Some d) (bytes_eq a (codes "edit")) (edit_of a b c d) (other_than_edit a b c d)
-    (either_names (Some d) (bytes_eq a (codes "edit") && not (bytes_eq b d)) (Some (Edit b c d)) None refl tt)
-    (either_names (Some d) (bytes_eq a (codes "pack")) (pack_of b c d) (apply_or_gen a b c d)
-    (either_names (Some d) (bytes_eq b d) None (Some (Pack b c d)) tt refl)
-    (either_names (Some d) (bytes_eq a (codes "apply")) (apply_of b c d) (gen_of a b c d)
-    (either_names (Some d) (bytes_eq b d) None (Some (Apply b c d)) tt refl)
-    (either_names (Some d) (bytes_eq a (codes "gen")) (generation_of (number_within 4294967295 b) (number_within 4294967295 c) d) None
-    (generation_names (number_within 4294967295 b) (number_within 4294967295 c) d) tt)))
+four_name a b c d = of_four (λ r. Names r (Some d)) a b c d tt refl refl refl (λ seed count. refl)
 
 words_name : (words : List (List ℕ)) → Names (request_of words) (last_of_four words)
 words_name [] = tt
 words_name (a ∷ []) = tt
-words_name (a ∷ b ∷ []) = either_names None (bytes_eq a (codes "check")) (Some (Check b)) None refl tt
+words_name (a ∷ b ∷ []) = either (λ r. Names r None) (bytes_eq a (codes "check")) (Some (Check b)) None refl tt
 words_name (a ∷ b ∷ c ∷ []) = tt
 words_name (a ∷ b ∷ c ∷ d ∷ []) = four_name a b c d
 words_name (a ∷ b ∷ c ∷ d ∷ e ∷ more) = tt

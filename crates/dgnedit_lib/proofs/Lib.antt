@@ -1,3 +1,5 @@
 pub mod FilesWritten
+pub mod Forms
 pub mod HandedOut
+pub mod MissingFiles
 pub mod TextWords

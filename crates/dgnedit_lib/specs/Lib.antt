@@ -1,3 +1,4 @@
 pub mod Handing
+pub mod Missing
 pub mod Words
 pub mod Writing

@@ -3,6 +3,7 @@
 
 mod ended;
 mod given;
+mod missing;
 mod running;
 mod word;
 
@@ -13,6 +14,7 @@ ghost use Rattle.dgn_tool.specs.Request.{request_of};
 ghost use Rattle.dgn_tool.specs.declared.status.Status.TheVariants as statuses;
 ghost use Rattle.dgn_tool.specs.Outcome.{outcome, HasFiles};
 ghost use Rattle.dgnedit_lib.specs.Handing.{HandsOut};
+ghost use Rattle.dgnedit_lib.specs.Missing.{missing_name};
 ghost use Rattle.dgnedit_lib.specs.Words.{bytes_of_words, words_given};
 
 pub use dgn_desk::LentFile;
@@ -28,7 +30,8 @@ pub use word::Word;
 /// has room for it; a buffer that is too small stays as it was, and the ending says how many bytes there are.
 ///
 /// The status is the exit number of the program, as are text and file. Where a file isn't handed in that the run comes to
-/// read, and only there, it is 5, unless it is 7, where there is no memory; then nothing is handed out.
+/// read, and only there, it is 5, and the text is the name of the first of these; unless it is 7, where there is no memory
+/// and nothing is handed out.
 #[unsafe(no_mangle)]
 pub extern "C" fn dgnedit_run(
     alloc: Global,
@@ -40,7 +43,8 @@ pub extern "C" fn dgnedit_run(
     ensures outcome { ¬ (result.status ≡ 5) → ¬ (result.status ≡ 7)
         → HandsOut (outcome (words_given (bytes_of_words words.now)) (lent_files files.now)) result
         (record { text_before = text.old; text_after = text.new; file_before = file.old; file_after = file.new }) }
-    ensures missing { result.status ≡ 5 → HandsOut (ended statuses.ReadFault []) result
+    ensures missing { result.status ≡ 5 → HandsOut (ended statuses.ReadFault
+        (missing_name (request_of (words_given (bytes_of_words words.now))) (lent_files files.now))) result
         (record { text_before = text.old; text_after = text.new; file_before = file.old; file_after = file.new })
         × ¬ HasFiles (request_of (words_given (bytes_of_words words.now))) (lent_files files.now) }
     ensures absent { ¬ HasFiles (request_of (words_given (bytes_of_words words.now))) (lent_files files.now)

@@ -5,10 +5,12 @@ ghost use Rattle.dgn_tool.specs.Ended.{ended};
 ghost use Rattle.dgn_tool.specs.Request.{request_of};
 ghost use Rattle.dgn_tool.specs.declared.status.Status.TheVariants as statuses;
 ghost use Rattle.dgn_tool.specs.Outcome.{outcome, HasFiles};
-ghost use Rattle.dgnedit_lib.specs.Handing.{HandsOut, put_in};
+ghost use Rattle.dgnedit_lib.specs.Handing.{HandsOut, put_in, text_ended};
+ghost use Rattle.dgnedit_lib.specs.Missing.{missing_name};
 ghost use Rattle.dgnedit_lib.specs.Writing.{bytes_at, name_written, has_written, last_of_four};
 
 use crate::ended::Ended;
+use crate::missing::missing_name;
 use dgn_desk::{LentDesk, LentFile};
 use dgn_tool::{Status, run};
 use std::alloc::Global;
@@ -24,7 +26,8 @@ pub(crate) fn run_over(
     ensures outcome { ¬ (result.status ≡ 5) → ¬ (result.status ≡ 7)
         → HandsOut (outcome (map string_bytes words.now) (lent_files files.now)) result
         (record { text_before = text.old; text_after = text.new; file_before = file.old; file_after = file.new }) }
-    ensures missing { result.status ≡ 5 → HandsOut (ended statuses.ReadFault []) result
+    ensures missing { result.status ≡ 5 → HandsOut (ended statuses.ReadFault
+        (missing_name (request_of (map string_bytes words.now)) (lent_files files.now))) result
         (record { text_before = text.old; text_after = text.new; file_before = file.old; file_after = file.new })
         × ¬ HasFiles (request_of (map string_bytes words.now)) (lent_files files.now) }
     ensures absent { ¬ HasFiles (request_of (map string_bytes words.now)) (lent_files files.now)
@@ -34,8 +37,10 @@ pub(crate) fn run_over(
 {
     let mut desk = LentDesk::new(alloc, files);
     let status = run(alloc, words, &mut desk);
-    if matches!(status, Status::ReadFault | Status::Memory) {
-        return Ended::with_text(status, 0);
+    match status {
+        Status::ReadFault => return tell_missing(alloc, words, &desk, text),
+        Status::Memory => return Ended::with_text(status, 0),
+        _ => {}
     }
     let ended = Ended::with_text(status, put_in(text, desk.said()));
     match written(words, status, &desk) {
@@ -45,6 +50,21 @@ pub(crate) fn run_over(
             ..ended
         },
         None => ended,
+    }
+}
+
+// Puts the name of the first file that isn't there of those which a run with these words comes to read into a buffer.
+fn tell_missing(alloc: Global, words: &[String], desk: &LentDesk<'_>, text: &mut [u8]) -> Ended
+    requires { ¬ HasFiles (request_of (map string_bytes words.now)) desk.now.content.files }
+    ensures told { result.status ≡ 5
+        → (result ≡ text_ended Status.ReadFault (length (missing_name (request_of (map string_bytes words.now)) desk.now.content.files)))
+        × (text.new ≡ put_in (missing_name (request_of (map string_bytes words.now)) desk.now.content.files) text.old) }
+    ensures memory { result.status ≡ 7 → (result ≡ text_ended Status.Memory 0) × (text.new ≡ text.old) }
+    ensures either { (result.status ≡ 5) ⊎ (result.status ≡ 7) }
+{
+    match missing_name(alloc, words, desk) {
+        Ok(name) => Ended::with_text(Status::ReadFault, put_in(text, &name)),
+        Err(_) => Ended::with_text(Status::Memory, 0),
     }
 }
 

@@ -23,7 +23,7 @@ fn check(alloc: Global, name: &[u8], text: &mut [u8]) -> Result<Ended, Fail> {
     Ok(dgnedit_run(alloc, &words, &files, text, &mut []))
 }
 
-// A file has so many elements; one that isn't handed in ends the run with 5, and no words with 2.
+// A file has so many elements; one that isn't handed in ends the run with 5 and its name, and no words with 2.
 #[test]
 fn runs_with_memory_end(rt: HostRuntime) -> Result<(), Fail> {
     let alloc = rt.alloc();
@@ -32,7 +32,8 @@ fn runs_with_memory_end(rt: HostRuntime) -> Result<(), Fail> {
     assert!(rt; ended.status == 0 && ended.text_length == 11 && !ended.file_written);
     assert!(rt; text.as_slice() == b"elements 1\n".as_slice());
     let missing = check(alloc, b"inn", &mut text)?;
-    assert!(rt; missing.status == 5 && missing.text_length == 0);
+    assert!(rt; missing.status == 5 && missing.text_length == 3);
+    assert!(rt; text.as_slice() == b"innments 1\n".as_slice());
     let usage = dgnedit_run(alloc, &[], &[], &mut [], &mut []);
     assert!(rt; usage.status == 2 && usage.text_length == 106);
     Ok(())

@@ -1,6 +1,6 @@
 use Rattle.std.proofs.Common.{sym, ◌∙◌}
 use Rattle.dgn_tool.proofs.NameTexts.{name_is_text}
-use Rattle.dgn_tool.proofs.seconds.text_of.Goals as goal
+use Rattle.dgn_tool.proofs.seconds.second_name.Goals as goal
 
 pub returns-in_default : goal.returns-in_default
 returns-in_default c =
