@@ -7,16 +7,13 @@ use Rattle.dgn_listing.specs.CauseTexts.{cause_text}
 use Rattle.dgn_import.specs.declared.second_fault.SecondFault.{SecondFault}
 use Rattle.dgn_import.specs.declared.second_fault.SecondFault.TheVariants as faults
 use Rattle.dgn_import.specs.Seconds.{SecondValue}
-use Rattle.dgn_import.specs.Gathering.{Gathering, Trees, Bad, Dimension, Refused, AreTrees, gathered}
-use Rattle.dgn_import.specs.Laws.{IsOfATree}
+use Rattle.dgn_import.specs.Gathering.{Gathering, Trees, Bad, Dimension, Refused, gathered}
 use Rattle.dgn_session.specs.State.{State}
 use Rattle.dgn_session.specs.Imported.{imported}
 use Rattle.edit_ops.specs.Causes.{too_long}
 use Rattle.edit_ops.specs.declared.causes.cause.Cause.{Cause}
 use Rattle.edit_ops.specs.declared.causes.cause.Cause.TheVariants as causes
 use Rattle.dgn_listing.specs.NumberedLines.{numbered}
-use Rattle.dgn_answers.specs.declared.gathering.Gathering as code
-use Rattle.dgn_answers.specs.declared.gathering.Gathering.TheVariants as gatherings
 
 -- the bytes of trees are appended, and how many trees they are; or nothing is, and this line says why
 pub data Importing : Type 0 where
@@ -52,19 +49,6 @@ importing s (Refused cause) = Declines (tree_cause_line cause)
 -- and by what the file comes to
 abbrev pub importing_of : State → SecondValue → Option Displacement → Importing
 importing_of s v by = importing s (gathered s.dim v by)
-
--- what is gathered from a second drawing, as the definition has it
-abbrev pub gathering_of : code.Gathering → Gathering
-gathering_of (gatherings.Trees g) = Trees g.bytes g.trees
-gathering_of (gatherings.Bad fault) = Bad fault
-gathering_of gatherings.Dimension = Dimension
-gathering_of (gatherings.Refused cause) = Refused cause
-
--- trees can stand behind a drawing of the dimension, and a cause is that of a tree
-abbrev pub FitsBehind : ℕ → code.Gathering → Type 0
-FitsBehind dim (gatherings.Trees g) = AreTrees dim g.bytes
-FitsBehind dim (gatherings.Refused cause) = IsOfATree cause
-FitsBehind dim other = Unit {0}
 
 -- what an import says
 abbrev pub import_text : Importing → List ℕ

@@ -2,13 +2,13 @@
 
 ghost use Rattle.std.specs.Prelude.{◌≡◌, ◌+◌, ◌≤◌, ◌++◌, length, option_map, vec_len, vec_capacity, IfOk, OnOk, OnErr};
 ghost use Rattle.dgn_drawing.specs.Spelling.{spelling};
-ghost use Rattle.dgn_import.specs.Gathering.{AreTrees, Trees};
-ghost use Rattle.dgn_import.specs.Laws.{IsOfATree};
+ghost use Rattle.dgn_import.specs.Answers.{TellsGathering};
+ghost use Rattle.dgn_import.specs.Gathering.{Gathering, AreTrees, Trees};
 ghost use Rattle.dgn_import.specs.Seconds.{value_of, IsOpened};
-ghost use Rattle.dgn_listing.specs.Lines.{AppendsFrontOf};
+ghost use Rattle.dgn_listing.specs.Lines.{Appends, AppendsFrontOf};
 ghost use Rattle.dgn_session.specs.State.{state_of};
 ghost use Rattle.dgn_listing.specs.NumberedLines.{numbered};
-ghost use Rattle.dgn_answers.specs.Imports.{second_fault_line, tree_cause_line, importing, importing_of, gathering_of, FitsBehind};
+ghost use Rattle.dgn_answers.specs.Imports.{second_fault_line, tree_cause_line, importing, importing_of};
 ghost use Rattle.dgn_answers.specs.Imports.{import_text, import_refused, import_left};
 ghost use Rattle.dgn_answers.specs.Remaining.{with_import};
 ghost use Rattle.dgn_answers.specs.Answer.{imports};
@@ -17,7 +17,6 @@ ghost use Rattle.dgn_answers.specs.Logs.{LogsAs, Answers};
 use crate::answered::Answered;
 use crate::answers::{ROOM, put_known};
 use crate::fences::put_count;
-use crate::gathering::Gathering;
 use dgn_drawing::Shift;
 use dgn_import::{Gathered, ImportFault, Second, SecondFault, gather};
 use dgn_listing::write_cause;
@@ -56,75 +55,41 @@ pub fn answer_import(
         (import_text (importing_of (state_of s.old) (value_of second.now) (option_map (λ b. b.now) by.entry)))
         out.old.items out.new.items) }
 {
-    let gathering = gather_second(alloc, s, second, by)?;
-    let answered = answer_gathering(alloc, s, gathering, out)?;
+    let found = gather(alloc, s.design().dim, second, by);
+    let answered = answer_gathered(alloc, s, found, out)?;
     Ok(answered.refused)
 }
 
-// What is gathered from a second drawing for an import in a session.
-fn gather_second(
-    alloc: Global,
-    s: &Session,
-    second: &Second,
-    by: Option<&Shift>,
-) -> Result<Gathering, AllocError>
-    requires sound { IsOpened second.now }
-    ensures gathered { IfOk result (λ gathering. importing (state_of s.now) (gathering_of gathering)
-        ≡ importing_of (state_of s.now) (value_of second.now) (option_map (λ b. b.now) by.entry)) }
-    ensures fits { IfOk result (FitsBehind s.now.dim) }
-{
-    match gather(alloc, s.design().dim, second, by) {
-        Ok(found) => Ok(Gathering::Trees(found)),
-        Err(ImportFault::Bad(fault)) => Ok(Gathering::Bad(fault)),
-        Err(ImportFault::Dimension) => Ok(Gathering::Dimension),
-        Err(ImportFault::Refused(cause)) => Ok(Gathering::Refused(cause)),
-        Err(ImportFault::Memory) => Err(AllocError),
-    }
-}
-
-// The same of one that nobody wants any more, whose memory is given back before its trees are appended.
-pub(crate) fn gather_last(
-    alloc: Global,
-    s: &Session,
-    second: Second,
-    by: Option<&Shift>,
-) -> Result<Gathering, AllocError>
-    requires sound { IsOpened second }
-    ensures gathered { IfOk result (λ gathering. importing (state_of s.now) (gathering_of gathering)
-        ≡ importing_of (state_of s.now) (value_of second) (option_map (λ b. b.now) by.entry)) }
-    ensures fits { IfOk result (FitsBehind s.now.dim) }
-{
-    gather_second(alloc, s, &second, by)
-}
-
-// Appends the trees that were gathered from a second drawing, appends to `out` what the import says, and answers what it came to.
-pub(crate) fn answer_gathering(
+// Appends the trees that were gathered from a second drawing, or says why there are none, and answers what the import came
+// to.
+pub(crate) fn answer_gathered(
     alloc: Global,
     s: &mut Session,
-    gathering: Gathering,
+    gathered: Result<Gathered, ImportFault>,
     out: &mut Vec<u8>,
 ) -> Result<Answered, AllocError>
-    requires fits { FitsBehind s.old.dim gathering }
-    ensures { Answers result (imports (state_of s.old) (importing (state_of s.old) (gathering_of gathering)))
-        s.old s.new out.old.items out.new.items }
+    requires trees { IfOk gathered (λ g. AreTrees s.old.dim g.bytes) }
+    ensures { (found : Gathering) → TellsGathering found gathered
+        → Answers result (imports (state_of s.old) (importing (state_of s.old) found)) s.old s.new out.old.items out.new.items }
 {
     out.reserve(ROOM)?;
     // What a session holds is such as its type keeps, which is known where a value of it is read.
     let _dim = s.design().dim;
-    match gathering {
-        Gathering::Trees(found) => append_gathered(alloc, s, &found, out),
-        Gathering::Bad(fault) => {
+    match gathered {
+        Ok(found) => append_gathered(alloc, s, &found, out),
+        Err(ImportFault::Bad(fault)) => {
             put_fault(out, fault);
             Ok(Answered::REFUSED)
         }
-        Gathering::Dimension => {
+        Err(ImportFault::Dimension) => {
             put_known(out, b"refused import dimension\n");
             Ok(Answered::REFUSED)
         }
-        Gathering::Refused(cause) => {
-            put_tree_cause(out, cause);
+        Err(ImportFault::Refused(cause)) => {
+            write_tree_cause(alloc, out, cause)?;
             Ok(Answered::REFUSED)
         }
+        Err(ImportFault::Memory) => Err(AllocError),
     }
 }
 
@@ -167,18 +132,18 @@ fn put_fault(out: &mut Vec<u8>, fault: SecondFault)
     }
 }
 
-// Appends the cause that refuses the displacement of a tree. There is room for it.
-fn put_tree_cause(out: &mut Vec<u8>, cause: Cause)
-    requires has_room { vec_len out.old + 64 ≤ vec_capacity out.old }
-    requires of_a_tree { IsOfATree cause }
-    ensures { out.new.items ≡ out.old.items ++ tree_cause_line cause }
+// Appends the cause that refuses the displacement of a tree: one of the first three, for which there is room, or any other.
+fn write_tree_cause(alloc: Global, out: &mut Vec<u8>, cause: Cause) -> Result<(), AllocError>
+    requires { vec_len out.old + 64 ≤ vec_capacity out.old }
+    ensures { Appends result (tree_cause_line cause) out.old.items out.new.items }
 {
     match cause {
         Cause::Floating(m) => put_line(out, b"refused import floating ", m),
         Cause::Opaque(m) => put_line(out, b"refused import opaque ", m),
         Cause::OffPlane(m) => put_line(out, b"refused import off-plane ", m),
-        _ => unreachable!(),
+        other => return write_cause(alloc, out, &other),
     }
+    Ok(())
 }
 
 // Appends a line of a few words and a number. There is room for it.

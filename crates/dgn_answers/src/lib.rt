@@ -6,7 +6,6 @@
 mod answered;
 mod answers;
 mod fences;
-mod gathering;
 mod importing;
 mod listings;
 mod ranges;

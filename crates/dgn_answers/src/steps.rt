@@ -10,9 +10,9 @@ ghost use Rattle.dgn_import.specs.Seconds.{seconds_left};
 
 use crate::answered::Answered;
 use crate::answers::respond;
-use crate::importing::{answer_gathering, gather_last};
+use crate::importing::answer_gathered;
 use dgn_drawing::Command;
-use dgn_import::{Second, SecondFault};
+use dgn_import::{Second, SecondFault, gather};
 use dgn_session::Session;
 use std::alloc::{AllocError, Global};
 
@@ -34,8 +34,9 @@ pub fn take_step(
     match c {
         Command::Import(_, by) => {
             let second = next_second(seconds);
-            let gathering = gather_last(alloc, s, second, by.as_ref())?;
-            answer_gathering(alloc, s, gathering, out)
+            let gathered = gather(alloc, s.design().dim, &second, by.as_ref());
+            drop(second);
+            answer_gathered(alloc, s, gathered, out)
         }
         _ => respond(alloc, s, c, out),
     }

@@ -11,7 +11,9 @@ use Rattle.dgn_drawing.specs.Opening.{Opens}
 use Rattle.dgn_drawing.proofs.FirstElements.{dimension_is}
 use Rattle.edit_ops.specs.declared.causes.cause.Cause.{Cause}
 use Rattle.dgn_import.specs.declared.gathered.Gathered.{Gathered}
-use Rattle.dgn_import.specs.Gathering.{Trees, Dimension, fits, gathering_unless, gathered_in, taken, import_trees, cause_of_roots, AreTrees}
+use Rattle.dgn_import.specs.declared.import_fault.ImportFault.{ImportFault}
+use Rattle.dgn_import.specs.Answers.{TellsGathering}
+use Rattle.dgn_import.specs.Gathering.{Trees, Dimension, fits, gathering_unless, gathered_in, gathered_trees, taken, import_trees, cause_of_roots, AreTrees}
 use Rattle.dgn_import.specs.Laws.{NestApart, GatheredTreesNestApart}
 use Rattle.dgn_import.proofs.TakenTrees.{taken_each}
 use Rattle.dgn_import.proofs.GatheredBytes.{trees_good, trees_free, trees_apart}
@@ -29,7 +31,7 @@ same_dim dim own (Some by) is = eqb-true own dim (and_parts (own == dim) (by.axe
 
 -- what is gathered where they fit, and where they don't
 pub fitting : (dim own : ℕ) (es : List Element) (by : Option Displacement) → fits dim own by ≡ true
-    → gathered_in dim own es by ≡ gathering_unless (cause_of_roots own es by (taken es)) (import_trees own es by (taken es)) (length (taken es))
+    → gathered_in dim own es by ≡ gathered_trees own es by
 fitting dim own es by is = cond-true (fits dim own by) _ _ is
 
 pub other_dim : (dim own : ℕ) (es : List Element) (by : Option Displacement) → fits dim own by ≡ false → gathered_in dim own es by ≡ Dimension
@@ -52,16 +54,6 @@ nest_apart f dim own es t by b count opens known is = elim (cases_Bool (fits dim
   | inr other ↦ absurd (let x : Dimension ≡ Trees b count = sym (other_dim dim own es by other) ∙ is in cc)
 ]
 
--- the trees of the roots that are taken, which nothing refuses, are what is gathered
-gathered_are : (dim own : ℕ) (es : List Element) (by : Option Displacement) (b : List ℕ) (count : ℕ) → fits dim own by ≡ true
-    → cause_of_roots own es by (taken es) ≡ None → b ≡ spelling (flat (import_trees own es by (taken es))) → count ≡ length (taken es)
-    → gathered_in dim own es by ≡ Trees b count
-gathered_are dim own es by b count fit none text counted =
-    fitting dim own es by fit
-    ∙ ap (λ (c : Option Cause). gathering_unless c (import_trees own es by (taken es)) (length (taken es))) none
-    ∙ ap (λ (x : List ℕ). Trees x (length (taken es))) (sym text)
-    ∙ ap (Trees b) (sym counted)
-
 -- so the bytes are those of such trees
 pub are_trees : (f : List ℕ) (dim own : ℕ) (es : List Element) (t : List ℕ) (by : Option Displacement) (b : List ℕ) (count : ℕ)
     → Opens f own es t → IfSome by IsShift → fits dim own by ≡ true → gathered_in dim own es by ≡ Trees b count → AreTrees dim b
@@ -75,19 +67,7 @@ are_trees f dim own es t by b count opens known fit is =
       free = n.free;
     }
 
-module _ (dim own : ℕ) (es : List Element) (by : Option Displacement) (fit : fits dim own by ≡ true) where
-  -- what is gathered, where it is
-  pub gathered_ok : {E : Type 0} (r : Result Gathered E) → IfOk r (λ _. cause_of_roots own es by (taken es) ≡ None)
-      → IfOk r (λ g. g.bytes ≡ spelling (flat (import_trees own es by (taken es))))
-      → IfOk r (λ g. g.trees ≡ length (taken es)) → IfOk r (λ g. gathered_in dim own es by ≡ Trees g.bytes g.trees)
-  gathered_ok (Ok g) none text counted = gathered_are dim own es by g.bytes g.trees fit none text counted
-  gathered_ok (Err e) none text counted = tt
-
 pub trees_ok : (f : List ℕ) (dim own : ℕ) (es : List Element) (t : List ℕ) (by : Option Displacement) → Opens f own es t → IfSome by IsShift
-    → fits dim own by ≡ true
-    → {E : Type 0} (r : Result Gathered E) → IfOk r (λ _. cause_of_roots own es by (taken es) ≡ None)
-    → IfOk r (λ g. g.bytes ≡ spelling (flat (import_trees own es by (taken es))))
-    → IfOk r (λ g. g.trees ≡ length (taken es)) → IfOk r (λ g. AreTrees dim g.bytes)
-trees_ok f dim own es t by opens known fit (Ok g) none text counted =
-    are_trees f dim own es t by g.bytes g.trees opens known fit (gathered_are dim own es by g.bytes g.trees fit none text counted)
-trees_ok f dim own es t by opens known fit (Err e) none text counted = tt
+    → fits dim own by ≡ true → (r : Result Gathered ImportFault) → TellsGathering (gathered_in dim own es by) r → IfOk r (λ g. AreTrees dim g.bytes)
+trees_ok f dim own es t by opens known fit (Ok g) is = are_trees f dim own es t by g.bytes g.trees opens known fit is
+trees_ok f dim own es t by opens known fit (Err fault) is = tt

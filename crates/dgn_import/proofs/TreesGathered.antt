@@ -12,10 +12,11 @@ use Rattle.dgn_drawing.specs.Nesting.{NoTree, flat}
 use Rattle.dgn_drawing.specs.Numbering.{Mark, mark_of}
 use Rattle.edit_ops.proofs.TreesBehind.{first_spelled}
 use Rattle.edit_ops.specs.declared.causes.cause.Cause.{Cause}
-use Rattle.dgn_import.specs.declared.import_fault.ImportFault.{ImportFault}
-use Rattle.dgn_import.specs.declared.import_fault.ImportFault.TheVariants as faults
-use Rattle.dgn_import.specs.Answers.{TellsCause}
-use Rattle.dgn_import.specs.Gathering.{is_taken, taken, import_tree, import_trees, import_cause, cause_of_roots}
+use Rattle.edit_ops.specs.declared.causes.edit_fault.EditFault.{EditFault}
+use Rattle.edit_ops.specs.declared.causes.edit_fault.EditFault.TheVariants as faults
+use Rattle.edit_ops.specs.Copying.{IsStopped}
+use Rattle.dgn_import.specs.Answers.{TellsFault, fault_of_tree}
+use Rattle.dgn_import.specs.Gathering.{Trees, is_taken, taken, import_tree, import_trees, import_cause, cause_of_roots, gathering_unless, gathered_trees}
 use Rattle.level_view.proofs.TakenRoots.{StandsAt, stands_first, all_found, first_passes, further, stands_taken, stands_left, chosen_few}
 
 or_three : {A : Type 0} (a b c : Option A) → option_or a (option_or b c) ≡ option_or (option_or a b) c
@@ -77,10 +78,9 @@ module _ (dim : ℕ) (es : List Element) (by : Option Displacement) where
           ∙ ap (λ (o : Option Cause). option_or o (cause_of_roots dim es by rest)) is
 
       -- where the tree of the root is refused, it is the first
-      pub next_refused : (f : ImportFault) → TellsCause (import_cause dim es by k) f → TellsCause (cause_of_roots dim es by (taken es)) f
-      next_refused (faults.Refused cause) is = first_refused cause is
-      next_refused (faults.Bad fault) is = absurd is
-      next_refused faults.Dimension is = absurd is
+      pub next_refused : (fault : EditFault) → IsStopped (import_cause dim es by k) fault → TellsFault (gathered_trees dim es by) (fault_of_tree fault)
+      next_refused (faults.Refused cause) is =
+          ap (λ (c : Option Cause). gathering_unless c (import_trees dim es by (taken es)) (length (taken es))) (first_refused cause is)
       next_refused faults.Memory is = tt
 
     module _ (end : ℕ) (ends : Some end ≡ option_map (λ (m : Mark). m.end) (mark_of row_of es k)) where
@@ -121,11 +121,9 @@ module _ (dim : ℕ) (es : List Element) (by : Option Displacement) where
     done_all : are.done ≡ taken es
     done_all = all_found es (is_taken es) k are.done past are.at
 
-    pub all_gathered : bytes ≡ spelling (flat (import_trees dim es by (taken es)))
-    all_gathered = are.text ∙ ap text_of done_all
-
-    pub all_accepted : cause_of_roots dim es by (taken es) ≡ None
-    all_accepted = ap (cause_of_roots dim es by) (sym done_all) ∙ are.none
-
-    pub all_counted : count ≡ length (taken es)
-    all_counted = are.counted ∙ ap (length {A = ℕ}) done_all
+    pub all_gathered : gathered_trees dim es by ≡ Trees bytes count
+    all_gathered =
+        ap (λ (c : Option Cause). gathering_unless c (import_trees dim es by (taken es)) (length (taken es)))
+        (ap (cause_of_roots dim es by) (sym done_all) ∙ are.none)
+        ∙ ap (λ (b : List ℕ). Trees b (length (taken es))) (sym (are.text ∙ ap text_of done_all))
+        ∙ ap (Trees bytes) (sym (are.counted ∙ ap (length {A = ℕ}) done_all))

@@ -75,11 +75,13 @@ abbrev pub gathering_unless : Option Cause → Forest Element → ℕ → Gather
 gathering_unless None trees count = Trees (spelling (flat trees)) count
 gathering_unless (Some cause) trees count = Refused cause
 
+-- those of the roots that are taken
+abbrev pub gathered_trees : ℕ → List Element → Option Displacement → Gathering
+gathered_trees dim es by = gathering_unless (cause_of_roots dim es by (taken es)) (import_trees dim es by (taken es)) (length (taken es))
+
 -- what is gathered from the elements of a drawing of dimension `own`
 abbrev pub gathered_in : ℕ → ℕ → List Element → Option Displacement → Gathering
-gathered_in dim own es by =
-    if fits dim own by then gathering_unless (cause_of_roots own es by (taken es)) (import_trees own es by (taken es)) (length (taken es))
-    else Dimension
+gathered_in dim own es by = if fits dim own by then gathered_trees own es by else Dimension
 
 -- what is gathered from a second drawing
 abbrev pub gathered : ℕ → SecondValue → Option Displacement → Gathering

@@ -1,18 +1,19 @@
-ghost use Rattle.std.specs.Prelude.{◌≡◌, ◌<◌, ◌++◌, length, option_map, IfOk, IfErr, IfSome, OnOk, IsErrOf, IsTrue, None};
+ghost use Rattle.std.specs.Prelude.{◌≡◌, ◌<◌, length, option_map, IfOk, IfSome, IsErrOf, IsTrue};
 ghost use Rattle.dgn_drawing.specs.Nesting.{flat};
 ghost use Rattle.dgn_drawing.specs.Spelling.{spelling};
 ghost use Rattle.elem_index.specs.Design.{elements};
 ghost use Rattle.dgn_drawing.specs.Values.{IsShift};
+ghost use Rattle.edit_ops.specs.Copying.{AddsUnless};
 ghost use Rattle.dgn_import.specs.Seconds.{value_of, IsOpened};
-ghost use Rattle.dgn_import.specs.Gathering.{AreTrees, Trees, fits, gathered, gathered_in, taken, import_tree, import_trees, import_cause, cause_of_roots};
-ghost use Rattle.dgn_import.specs.Answers.{TellsFault, TellsCause, IsOpenToGather};
+ghost use Rattle.dgn_import.specs.Gathering.{AreTrees, fits, gathered, gathered_in, gathered_trees, import_tree, import_cause};
+ghost use Rattle.dgn_import.specs.Answers.{TellsGathering, IsOpenToGather};
 
 use crate::gathered::Gathered;
 use crate::import_fault::ImportFault;
 use crate::second::Second;
 use crate::taking::is_taken;
 use dgn_drawing::Shift;
-use edit_ops::{copy_tree, part_bytes, part_end};
+use edit_ops::{EditFault, copy_tree, part_bytes, part_end};
 use level_view::Drawing;
 use patch_bytes::ByteList;
 use std::alloc::Global;
@@ -36,10 +37,7 @@ pub fn gather(
     by: Option<&Shift>,
 ) -> Result<Gathered, ImportFault>
     requires sound { IsOpened second.now }
-    ensures gathered { IfOk result
-        (λ g. gathered dim (value_of second.now) (option_map (λ b. b.now) by.entry) ≡ Trees g.bytes g.trees) }
-    ensures refused { IfErr result
-        (TellsFault (gathered dim (value_of second.now) (option_map (λ b. b.now) by.entry))) }
+    ensures gathered { TellsGathering (gathered dim (value_of second.now) (option_map (λ b. b.now) by.entry)) result }
     ensures trees { IfOk result (λ g. AreTrees dim g.bytes) }
     ensures memory { IsErrOf result ImportFault.Memory
         → IsOpenToGather dim (value_of second.now) (option_map (λ b. b.now) by.entry) }
@@ -57,10 +55,7 @@ fn gather_from(
     d: &Drawing<'_>,
     by: Option<&Shift>,
 ) -> Result<Gathered, ImportFault>
-    ensures gathered { IfOk result
-        (λ g. gathered_in dim d.now.dim (elements d.now) (option_map (λ b. b.now) by.entry) ≡ Trees g.bytes g.trees) }
-    ensures refused { IfErr result
-        (TellsFault (gathered_in dim d.now.dim (elements d.now) (option_map (λ b. b.now) by.entry))) }
+    ensures gathered { TellsGathering (gathered_in dim d.now.dim (elements d.now) (option_map (λ b. b.now) by.entry)) result }
     ensures trees { IfOk result (λ g. AreTrees dim g.bytes) }
     ensures memory { IsErrOf result ImportFault.Memory
         → IsTrue (fits dim d.now.dim (option_map (λ b. b.now) by.entry)) }
@@ -87,13 +82,7 @@ fn fits(dim: u8, own: u8, by: Option<&Shift>) -> bool
 // refused. Nothing is kept of a tree but its bytes; what the copy of one of several elements takes is given back before
 // the next.
 fn taken_trees(alloc: Global, d: &Drawing<'_>, by: Option<&Shift>) -> Result<Gathered, ImportFault>
-    ensures bytes { IfOk result
-        (λ g. g.bytes ≡ spelling (flat (import_trees d.now.dim (elements d.now) (option_map (λ b. b.now) by.entry) (taken (elements d.now))))) }
-    ensures trees { IfOk result (λ g. g.trees ≡ length (taken (elements d.now))) }
-    ensures accepted { IfOk result
-        (λ _. cause_of_roots d.now.dim (elements d.now) (option_map (λ b. b.now) by.entry) (taken (elements d.now)) ≡ None) }
-    ensures refused { IfErr result
-        (TellsCause (cause_of_roots d.now.dim (elements d.now) (option_map (λ b. b.now) by.entry) (taken (elements d.now)))) }
+    ensures { TellsGathering (gathered_trees d.now.dim (elements d.now) (option_map (λ b. b.now) by.entry)) result }
 {
     d.is_whole();
     let mut room = Vec::new(alloc);
@@ -120,14 +109,10 @@ fn push_tree(
     n: u32,
     by: Option<&Shift>,
     out: &mut ByteList,
-) -> Result<(), ImportFault>
+) -> Result<(), EditFault>
     requires known { n < length (elements d.now) }
-    ensures pushed { OnOk result
-        (out.new ≡ out.old ++ spelling (flat (import_tree d.now.dim (elements d.now) (option_map (λ b. b.now) by.entry) n))) }
-    ensures accepted { OnOk result
-        (import_cause d.now.dim (elements d.now) (option_map (λ b. b.now) by.entry) n ≡ None) }
-    ensures refused { IfErr result
-        (TellsCause (import_cause d.now.dim (elements d.now) (option_map (λ b. b.now) by.entry) n)) }
+    ensures { AddsUnless (import_cause d.now.dim (elements d.now) (option_map (λ b. b.now) by.entry) n)
+        (spelling (flat (import_tree d.now.dim (elements d.now) (option_map (λ b. b.now) by.entry) n))) result out.old out.new }
 {
     match by {
         None => {

@@ -2,9 +2,10 @@ ghost use Rattle.std.specs.Prelude.{◌≡◌, ◌+◌, [], ◌∷◌, ◌++◌,
 ghost use Rattle.dgn_drawing.specs.Opening.{elements_of};
 ghost use Rattle.elem_index.specs.Design.{IsWhole};
 ghost use Rattle.edit_ops.specs.Causes.{too_long};
+ghost use Rattle.edit_ops.specs.Copying.{IsStopped};
 ghost use Rattle.dgn_import.specs.Gathering.{AreTrees};
 ghost use Rattle.dgn_session.specs.State.{state_of, value_with};
-ghost use Rattle.dgn_session.specs.Imported.{imported, import_entry, IsTooLong};
+ghost use Rattle.dgn_session.specs.Imported.{imported, import_entry};
 
 use crate::session::Session;
 use dgn_drawing::MOST_DESIGN;
@@ -41,7 +42,7 @@ impl Session {
         ensures accepted { OnOk result
             (too_long (length self.old.body + length self.old.tail + length bytes.now) ≡ None) }
         ensures refused { IfErr result
-            (IsTooLong (length self.old.body + length self.old.tail + length bytes.now)) }
+            (IsStopped (too_long (length self.old.body + length self.old.tail + length bytes.now))) }
         ensures memory { IsErrOf result EditFault.Memory
             → too_long (length self.old.body + length self.old.tail + length bytes.now) ≡ None }
         ensures kept { OnErr result (self.new ≡ self.old) }

@@ -1,6 +1,6 @@
 use Rattle.std.proofs.Common.{sym, ◌∙◌}
 use Rattle.dgn_import.proofs.SpelledBodies.{spelled_with}
-use Rattle.dgn_answers.proofs.importing.answer_gathering.Goals as goal
+use Rattle.dgn_answers.proofs.importing.answer_gathered.Goals as goal
 
 pub append_gathered-requires-clause-body : goal.append_gathered-requires-clause-body
 append_gathered-requires-clause-body c =
