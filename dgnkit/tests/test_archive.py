@@ -261,6 +261,20 @@ class Continued(OverFolders):
     def count(self) -> int:
         return len((self.into / JOURNAL).read_bytes().splitlines()) if (self.into / JOURNAL).exists() else 0
 
+    def test_a_process_that_is_killed(self) -> None:
+        killing = [str(self.sheet(it).relative_to(self.tree)) for it in ('0/kills.dgn', '2/kills.dgn', '3/kills.dgn')]
+        program = self.wrapped('case $2 in *kills.dgn) kill -9 $PPID;; esac')
+        for jobs in ('1', '3'):
+            into = self.folder / jobs
+            ran = self.begun('each', self.script, self.tree, '--into', into, '--jobs', jobs, program=program)
+            _, err = ran.communicate(timeout=300)
+            self.assertEqual((ran.returncode, b'Traceback' in err), (1, False), err)
+            told = {it['drawing']: (it['status'], it['ending']) for it in self.lines(into)}
+            for place in killing:
+                self.assertEqual(told.pop(place), (-1, 'the process that did it was stopped by signal 9'))
+            self.assertEqual(told.pop('cut.dgn')[0], 4)
+            self.assertEqual((set(told.values()), len(told)), ({(0, 'done')}, 40))
+
     def test_only_what_changed_is_done_again(self) -> None:
         self.each(self.script, self.tree, status=1)
         before = {it: (self.into / it).stat().st_mtime_ns for it in self.new()}

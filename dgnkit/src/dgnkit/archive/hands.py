@@ -7,6 +7,7 @@ import importlib
 import os
 import queue
 import threading
+from itertools import islice
 from typing import IO, Any, Dict, Iterable, Iterator, List, Optional, Tuple
 
 from ..errors import MissingProgram, Mistake
@@ -18,68 +19,84 @@ from .worker import Gone, Worker, run_batch
 LOOK = 0.2  # so many seconds the main thread waits before it heeds an interrupt, where a system lets it wait on
 BATCH = 64 << 20  # bytes of drawings that a cluster's worker is handed at once
 BATCH_MOST = 256  # drawings
+HANDED = 2  # so many drawings for each process on this machine are handed out at a time
 AHEAD = 3  # so many batches for each worker are handed to a cluster at a time
 
 
 class Local:
-    """So many processes on this machine. Each is handed a drawing as it has done the last one."""
+    """So many processes on this machine. What they take is handed out ahead, so that none of them waits while what has
+    become of another drawing is written to the journal."""
 
     def __init__(self, change: Change, jobs: int, inherited: IO[bytes]) -> None:
         self.change, self.jobs, self.inherited = change, jobs, inherited
+        self.ready: queue.SimpleQueue[Optional[Task]] = queue.SimpleQueue()
+        # what became of a task, or none; and the process that has ended, where one has
+        self.ended: queue.SimpleQueue[Tuple[Optional[Done], Optional[Worker]]] = queue.SimpleQueue()
 
     def done(self, tasks: Iterable[Task]) -> Iterator[Done]:
         """What becomes of each task, as they end. All processes have ended when this has."""
         waiting = iter(tasks)
-        ended: queue.SimpleQueue[Tuple[int, Optional[Done]]] = queue.SimpleQueue()
-        workers: Dict[int, Worker] = {}
+        workers: List[Worker] = []
+        handed = 0
         is_whole = False
         try:
-            for number in range(self.jobs):
-                task = next(waiting, None)
-                if task is not None:
-                    self._begin(number, task, workers, ended)
-            while workers:
-                number, done = self._next(ended)
-                if done is None:
-                    continue
-                task = next(waiting, None)
-                if task is None:
-                    workers.pop(number).end()
-                else:
-                    self._begin(number, task, workers, ended)
-                yield done
+            while True:
+                for task in islice(waiting, HANDED * self.jobs - handed):
+                    self.ready.put(task)
+                    handed += 1
+                if not handed:
+                    break
+                while len(workers) < min(self.jobs, handed):
+                    self._begin(workers)
+                done, gone = self._next()
+                if gone is not None:
+                    workers.remove(gone)
+                if done is not None:
+                    handed -= 1
+                    yield done
             is_whole = True
         finally:
-            for worker in workers.values():
-                worker.end(is_stopped=not is_whole)
+            self._end(workers, not is_whole)
 
-    def _next(self, ended: queue.SimpleQueue[Tuple[int, Optional[Done]]]) -> Tuple[int, Optional[Done]]:
+    def _next(self) -> Tuple[Optional[Done], Optional[Worker]]:
         with contextlib.suppress(queue.Empty):
-            return ended.get(timeout=LOOK)
-        return -1, None
+            return self.ended.get(timeout=LOOK)
+        return None, None
 
-    def _begin(
-        self,
-        number: int,
-        task: Task,
-        workers: Dict[int, Worker],
-        ended: queue.SimpleQueue[Tuple[int, Optional[Done]]],
-    ) -> None:
-        """Has a process do a task; it is begun anew where it has ended."""
-        if number not in workers or workers[number].process.poll() is not None:
-            workers[number] = Worker(self.change, self.inherited)
-        worker = workers[number]
-
-        def attend() -> None:
-            try:
-                ended.put((number, worker.do(task)))
-            except Gone as why:
-                ended.put((number, Done(Entry(task.place, ending='the process that did it was %s' % why))))
-
+    def _begin(self, workers: List[Worker]) -> None:
+        """Begins a process, and a thread that hands it tasks until it ends."""
+        workers.append(Worker(self.change, self.inherited))
         try:
-            threading.Thread(target=attend, daemon=True).start()
+            threading.Thread(target=self._attend, args=(workers[-1],), daemon=True).start()
         except RuntimeError:
             raise MissingProgram('no thread can be started to wait for what does it')
+
+    def _attend(self, worker: Worker) -> None:
+        """Hands a process one task after the other, until it has ended or there are no more."""
+        done, gone = None, None
+        while gone is None:
+            task = self.ready.get()
+            if task is None:
+                return
+            if worker.process.poll() is not None:  # before it was handed this
+                self.ready.put(task)
+                done, gone = None, worker
+            else:
+                try:
+                    done = worker.do(task)
+                except Gone as why:
+                    done, gone = Done(Entry(task.place, ending='the process that did it was %s' % why)), worker
+            self.ended.put((done, gone))
+
+    def _end(self, workers: List[Worker], is_stopped: bool) -> None:
+        """Ends all processes, and the threads that hand them tasks."""
+        with contextlib.suppress(queue.Empty):
+            while True:
+                self.ready.get_nowait()
+        for worker in workers:
+            self.ready.put(None)
+        for worker in workers:
+            worker.end(is_stopped)
 
 
 class Cluster:

@@ -75,14 +75,17 @@ class Worker:
         try:
             self.process.stdin.write(json.dumps(told).encode('ascii') + b'\n')
             self.process.stdin.flush()
-        except BrokenPipeError:
-            pass  # it has ended, which is heard where its answer is
+        except (BrokenPipeError, ValueError):
+            pass  # it has ended, or is being ended, which is heard where its answer is
 
     def do(self, task: Task) -> Done:
         """Has it do a task, and waits for that. It raises Gone where it has ended."""
         self._say(vars(task))
         assert self.process.stdout is not None
-        line = self.process.stdout.readline()
+        try:
+            line = self.process.stdout.readline()
+        except ValueError:  # it was ended meanwhile
+            line = b''
         if not line.endswith(b'\n'):
             raise Gone(self.process.wait())
         told = json.loads(line)
