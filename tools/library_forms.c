@@ -14,7 +14,8 @@
 
 enum { ROOM = 1 << 20, SMALL = 3, THREADS = 4 };
 
-struct form { uint32_t status; const char *words[5], *missing; };       /* the words end with a null */
+struct form { uint32_t status; const char *words[5]; };     /* the words end with a null */
+struct lack { const char *missing, *words[5]; };            /* the file that these words lack */
 
 static const struct form FORMS[] = {
     {0, {"edit", "IN", "SCRIPT", "OUT"}},
@@ -26,11 +27,14 @@ static const struct form FORMS[] = {
     {2, {0}},
     {3, {"edit", "IN", "BAD", "OUT"}},
     {4, {"edit", "TEXT", "SCRIPT", "OUT"}},
-    {5, {"check", "NOWHERE"}, "NOWHERE"},
-    {5, {"edit", "IN", "MISSING", "OUT"}, "MISSING"},
-    {5, {"pack", "IN", "IMPORTS", "OUT"}, "second.dgn"},
-    {5, {"apply", "IN", "NO-PATCH", "OUT"}, "NO-PATCH"},
     {10, {"apply", "IN", "TEXT", "OUT"}},
+};
+
+static const struct lack LACKS[] = {
+    {"NOWHERE", {"check", "NOWHERE"}},
+    {"MISSING", {"edit", "IN", "MISSING", "OUT"}},
+    {"second.dgn", {"pack", "IN", "IMPORTS", "OUT"}},
+    {"NO-PATCH", {"apply", "IN", "NO-PATCH", "OUT"}},
 };
 
 enum { FILES = 7 };
@@ -64,12 +68,11 @@ static dgnedit_ended run(const char *const *words, const dgnedit_file *given, ui
     return ended;
 }
 
-/* Whether a form ended as it should, with the name of the file that it lacks. */
-static bool ends_so(const struct form *form, dgnedit_ended ended, const uint8_t *said)
+/* Whether a run ended for want of this file, and names it. */
+static bool lacks(const char *missing, dgnedit_ended ended, const uint8_t *said)
 {
-    if (ended.status != form->status) return false;
-    return form->missing == NULL
-        || (ended.text_length == strlen(form->missing) && memcmp(said, form->missing, ended.text_length) == 0);
+    return ended.status == DGNEDIT_FILE_MISSING && ended.text_length == strlen(missing)
+        && memcmp(said, missing, ended.text_length) == 0;
 }
 
 /* All forms, and a patch file that is packed and applied. */
@@ -81,7 +84,9 @@ static void *run_all(void *out)
     uint8_t *said = malloc(ROOM), *made = malloc(ROOM), *patch = malloc(ROOM);
     if (said == NULL || made == NULL || patch == NULL) exit(2);
     for (size_t i = 0; i < sizeof FORMS / sizeof *FORMS; i++)
-        if (!ends_so(&FORMS[i], run(FORMS[i].words, files, said, made, wrong), said)) *wrong = 1;
+        if (run(FORMS[i].words, files, said, made, wrong).status != FORMS[i].status) *wrong = 1;
+    for (size_t i = 0; i < sizeof LACKS / sizeof *LACKS; i++)
+        if (!lacks(LACKS[i].missing, run(LACKS[i].words, files, said, made, wrong), said)) *wrong = 1;
     dgnedit_file given[FILES];
     memcpy(given, files, sizeof files);
     size_t length = run(PACK, files, said, made, wrong).file_length;
