@@ -6,7 +6,8 @@ use Rattle.dgn_drawing.specs.declared.edit.Edit.{Edit}
 use Rattle.dgn_drawing.specs.declared.fence_edit.FenceEdit.{FenceEdit}
 use Rattle.dgn_session.specs.State.{State}
 use Rattle.edit_ops.specs.Applying.{Applied, Done, Refused}
-use Rattle.edit_ops.specs.Fields.{Field, edited_fields}
+use Rattle.edit_ops.specs.Fields.{Field}
+use Rattle.edit_ops.specs.EditedFields.{edited_fields}
 use Rattle.edit_ops.specs.Fenced.{fenced_fields}
 use Rattle.dgn_audit.specs.Fitting.{fit_fields}
 use Rattle.dgn_answers.specs.Imports.{Importing, Appends, Declines}

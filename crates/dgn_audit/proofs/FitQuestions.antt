@@ -11,7 +11,7 @@ use Rattle.elem_index.specs.Design.{elements, IsWhole}
 use Rattle.edit_ops.specs.Causes.{says_locked, is_locked, deleted}
 use Rattle.elem_index.proofs.Places.{axes_of}
 use Rattle.edit_ops.proofs.WiderRanges.{holds_of, spots_loud}
-use Rattle.edit_ops.specs.declared.asking.element_view.ElementView.{ElementView}
+use Rattle.edit_ops.specs.declared.elements.element_view.ElementView.{ElementView}
 use Rattle.edit_ops.specs.ElementViews.{IsElementView}
 use Rattle.edit_ops.proofs.ElementAnswers.{holds_found, long_found}
 use Rattle.edit_ops.specs.declared.causes.cause.Cause.TheVariants as causes

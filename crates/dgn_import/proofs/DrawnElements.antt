@@ -5,7 +5,7 @@ use Rattle.std.proofs.lemmas.Bool.{and_left}
 use Rattle.dgn_layout.specs.Classes.{class_of, is_silent}
 use Rattle.elem_index.specs.declared.design.Design.{Design}
 use Rattle.elem_index.specs.Design.{elements}
-use Rattle.edit_ops.specs.declared.asking.element_view.ElementView.{ElementView}
+use Rattle.edit_ops.specs.declared.elements.element_view.ElementView.{ElementView}
 use Rattle.edit_ops.specs.ElementViews.{IsElementView}
 use Rattle.dgn_import.specs.Gathering.{is_drawn}
 

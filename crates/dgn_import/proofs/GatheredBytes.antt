@@ -16,11 +16,13 @@ use Rattle.dgn_drawing.specs.Opening.{BeginsWithTcb}
 use Rattle.nest_tree.proofs.NestingSteps.{nest_nil, flat-forest}
 use Rattle.nest_tree.proofs.TreesApart.{nest_apart, forest_apart}
 use Rattle.edit_ops.specs.Trees.{tree_at, live_map, live_tree}
+use Rattle.edit_ops.specs.Rules.{displacing}
 use Rattle.edit_ops.specs.Written.{IsReady}
 use Rattle.edit_ops.proofs.PartPlace.{flat-joined}
 use Rattle.edit_ops.proofs.EachLive.{each_both, tree_each}
 use Rattle.edit_ops.proofs.AcceptedEdit.{IsThere, is_there, none_both, copy_ready}
 use Rattle.edit_ops.proofs.FirstElement.{some_element}
+use Rattle.edit_ops.proofs.KeptRules.{edit_keeps}
 use Rattle.edit_ops.proofs.CopiedPart.{freed_first, copied_good, copied_nests}
 use Rattle.edit_ops.proofs.TreesBehind.{joined_left, free_both}
 use Rattle.dgn_import.specs.Gathering.{import_tree, import_trees, import_cause, cause_of_roots}
@@ -55,13 +57,15 @@ module _ (dim : ℕ) (es : List Element) (axes : IsDimension dim) (each : AllByR
       let able = copy_ready dim by n (live_tree es n) none in
       let free : BeginsFree row_of (flat (import_tree dim es (Some by) n)) =
       freed_first (live_map (λ member. member.deleted) (shift dim by) (tree_at n (forest row_of es))) in
+      let keeps = edit_keeps dim axes (edit.Copy n by) fits in
       record {
-        good = copied_good dim axes es (edit.Copy n by) n fits each able;
+        good = copied_good dim es (displacing dim by) (IsReady dim (edit.Copy n by)) keeps n each able;
         free = free;
         alone =
             joined_left (forest row_of es) (nest row_of Whole (flat (import_tree dim es (Some by) n))) (import_tree dim es (Some by) n)
             (sym (forest_apart row_of es (flat (import_tree dim es (Some by) n)) (some_element es first) free)
-            ∙ copied_nests dim axes es (edit.Copy n by) n fits each able root.known root.later root.head root.there (head_spots by n root able));
+            ∙ copied_nests dim es (displacing dim by) (IsReady dim (edit.Copy n by)) keeps n each able root.known root.later root.head root.there
+            (head_spots by n root able));
       }
 
   module _ (by : Option Displacement) (fits : IfSome by IsShift) where

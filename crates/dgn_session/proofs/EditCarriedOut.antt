@@ -9,7 +9,7 @@ use Rattle.elem_index.specs.Design.{elements}
 use Rattle.edit_ops.specs.declared.types.plan.Plan.{Plan}
 use Rattle.edit_ops.specs.Causes.{target_of}
 use Rattle.edit_ops.specs.Applying.{Done, apply, IsEdit}
-use Rattle.edit_ops.specs.Fields.{edited_fields}
+use Rattle.edit_ops.specs.EditedFields.{edited_fields}
 use Rattle.edit_ops.specs.Planned.{IsPlan}
 use Rattle.edit_ops.specs.Laws.{ChangesItsFields}
 use Rattle.edit_ops.proofs.CauseOrder.{target_known}

@@ -9,7 +9,8 @@ use Rattle.dgn_drawing.specs.Rows.{row_of}
 use Rattle.dgn_drawing.specs.Nesting.{BeginsFree}
 use Rattle.dgn_drawing.specs.Opening.{Opens}
 use Rattle.edit_ops.specs.Applying.{Done, apply, IsEdit}
-use Rattle.edit_ops.specs.Fields.{Field, Rise, edited_fields, filled}
+use Rattle.edit_ops.specs.Fields.{Field, Rise, filled}
+use Rattle.edit_ops.specs.EditedFields.{edited_fields}
 use Rattle.edit_ops.specs.Fenced.{apply_all, fenced_fields, AreRoots, IsFenceEdit}
 use Rattle.edit_ops.proofs.FieldsRise.{fields_apart}
 use Rattle.edit_ops.proofs.FenceLaws.{fenced_opens, fenced_fits, fenced_changes, fenced_apart}

@@ -13,7 +13,8 @@ use Rattle.dgn_fence.specs.Selected.{selected}
 use Rattle.undo_log.specs.declared.entry.Entry.{Entry}
 use Rattle.undo_log.specs.Entries.{bodies}
 use Rattle.edit_ops.specs.Applying.{Applied, Done, Refused, apply}
-use Rattle.edit_ops.specs.Fields.{Field, edited_fields, filled}
+use Rattle.edit_ops.specs.Fields.{Field, filled}
+use Rattle.edit_ops.specs.EditedFields.{edited_fields}
 use Rattle.edit_ops.specs.Fenced.{apply_all, fenced_fields}
 
 -- a state: the dimension, the number of bytes of the tail, a stack of element lists, which is never empty: its top

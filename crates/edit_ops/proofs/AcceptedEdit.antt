@@ -21,8 +21,8 @@ use Rattle.dgn_drawing.specs.Opening.{BeginsWithTcb}
 use Rattle.elem_index.specs.Offsets.{offset_of}
 use Rattle.edit_ops.specs.declared.causes.cause.Cause.{Cause}
 use Rattle.edit_ops.specs.declared.causes.cause.Cause.TheVariants as causes
-use Rattle.edit_ops.specs.declared.asking.test.Test.{Test}
-use Rattle.edit_ops.specs.declared.asking.test.Test.TheVariants as tests
+use Rattle.edit_ops.specs.declared.causes.test.Test.{Test}
+use Rattle.edit_ops.specs.declared.causes.test.Test.TheVariants as tests
 use Rattle.edit_ops.specs.Trees.{Live, live_from, live_tree, above_tree, found_at, path_to}
 use Rattle.edit_ops.specs.Causes.{unknown, broken, broken_in, silent, unmovable, lookless, unmarkable, cause_at, first_cause, first_of}
 use Rattle.edit_ops.specs.Causes.{part_cause, causes_of, target_of, target_cause, cause_of}

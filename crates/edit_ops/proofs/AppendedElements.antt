@@ -27,7 +27,8 @@ use Rattle.edit_ops.specs.declared.causes.cause.Cause.TheVariants as causes
 use Rattle.edit_ops.specs.declared.types.plan.Plan.{Plan}
 use Rattle.edit_ops.specs.Causes.{other_axes, too_long, bytes_appended, cause_of}
 use Rattle.edit_ops.specs.Applying.{Done, apply, changed_forest}
-use Rattle.edit_ops.specs.Fields.{Field, edited_fields, filled}
+use Rattle.edit_ops.specs.Fields.{Field, filled}
+use Rattle.edit_ops.specs.EditedFields.{edited_fields}
 use Rattle.edit_ops.specs.Planned.{IsPlan}
 use Rattle.edit_ops.specs.Laws.{ChangesItsFields}
 use Rattle.edit_ops.proofs.PartPlace.{flat-joined}

@@ -18,6 +18,7 @@ use Rattle.edit_ops.specs.declared.causes.edit_fault.EditFault.TheVariants as fa
 use Rattle.edit_ops.specs.declared.types.plan.Plan.{Plan}
 use Rattle.edit_ops.specs.Causes.{unknown, part_cause, causes_of, first_of, target_of, target_cause, cause_of}
 use Rattle.edit_ops.specs.Applying.{Done, Refused, applied_unless, apply, changed_forest, copied, ChangesInPlace, IsEdit}
+use Rattle.edit_ops.specs.Rules.{rule_of}
 use Rattle.edit_ops.specs.Written.{part_puts}
 use Rattle.edit_ops.specs.Copying.{AddsUnless}
 use Rattle.edit_ops.specs.Planned.{IsPlan, IsPlanBehind, PlansUnless}
@@ -79,11 +80,11 @@ copy_named e m n by is named = is ∙ ap (λ (k : ℕ). edit.Copy k by) (same_so
 -- a copy without a cause is planned by its bytes
 pub copied_plan : (dim : ℕ) (es : List Element) (rest : ℕ) (e : Edit) (n m : ℕ) (by : Displacement) (p : Plan) → target_of e ≡ Some n → e ≡ edit.Copy m by
     → cause_of dim es rest e ≡ None
-    → p.patches ≡ [] → p.append ≡ spelling (flat (copied dim es e n)) → IsPlan dim es rest e p
+    → p.patches ≡ [] → p.append ≡ spelling (flat (copied (rule_of dim e) es n)) → IsPlan dim es rest e p
 copied_plan dim es rest e n m by p named is none patches append =
     let same : n ≡ m = same_some n m (sym named ∙ ap target_of is) in
-    let bytes : p.append ≡ spelling (flat (copied dim es (edit.Copy m by) m)) =
-    append ∙ ap (λ (x : Edit). spelling (flat (copied dim es x n))) is ∙ ap (λ (k : ℕ). spelling (flat (copied dim es (edit.Copy m by) k))) same in
+    let bytes : p.append ≡ spelling (flat (copied (rule_of dim (edit.Copy m by)) es m)) =
+    append ∙ ap (λ (x : Edit). spelling (flat (copied (rule_of dim x) es n))) is ∙ ap (λ (k : ℕ). spelling (flat (copied (rule_of dim (edit.Copy m by)) es k))) same in
     let free : cause_of dim es rest (edit.Copy m by) ≡ None = ap (cause_of dim es rest) (sym is) ∙ none in
     subst (λ (x : Edit). IsPlan dim es rest x p) (sym is) (copy_plan dim es rest m by p free patches bytes)
 
@@ -98,10 +99,10 @@ made_plan dim es rest e new p is none patches append =
 -- another edit of a part without a cause is planned by what it puts into the part and the headers above it
 pub changed_plan : (f : List ℕ) (dim : ℕ) (es : List Element) (t : List ℕ) (rest : ℕ) (e : Edit) (n : ℕ) (p : Plan) → IsEdit e → Opens f dim es t
     → target_of e ≡ Some n
-    → ((m : ℕ) (by : Displacement) → e ≡ edit.Copy m by → ⊥) → cause_of dim es rest e ≡ None → p.patches ≡ part_puts dim es e n → p.append ≡ []
+    → ChangesInPlace e → cause_of dim es rest e ≡ None → p.patches ≡ part_puts (rule_of dim e) es n → p.append ≡ []
     → IsPlan dim es rest e p
-changed_plan f dim es t rest e n p fits opens named other none patches append =
-    plan_is f dim es t rest e n fits opens (in_place dim es e n named other) p none patches append
+changed_plan f dim es t rest e n p fits opens named here none patches append =
+    plan_is f dim es t rest e n fits opens (in_place dim es e n named here) p none patches append
 
 -- an edit that changes elements where they stand has the same causes, whatever else the file has
 pub causes_in_place : (dim : ℕ) (es : List Element) (rest : ℕ) (e : Edit) → ChangesInPlace e

@@ -10,10 +10,9 @@ use Rattle.patch_bytes.specs.Puts.{Put, write, Span}
 use Rattle.dgn_layout.specs.Classes.{class_of, is_among}
 use Rattle.dgn_layout.specs.Spots.{has_spots}
 use Rattle.dgn_drawing.specs.declared.row.Row.{Row}
-use Rattle.dgn_drawing.specs.declared.edit.Edit.{Edit}
 use Rattle.dgn_drawing.specs.Element.{Element}
 use Rattle.dgn_drawing.specs.Spelling.{bit, second_byte, body_bytes, spell, spelling, size_of}
-use Rattle.dgn_drawing.specs.WellFormed.{IsDimension, IsWellFormed}
+use Rattle.dgn_drawing.specs.WellFormed.{IsWellFormed}
 use Rattle.dgn_drawing.specs.Rows.{row_of}
 use Rattle.dgn_drawing.specs.Changes.{freed}
 use Rattle.dgn_drawing.specs.Nesting.{Forest, NoTree, Tree, flat, forest, forest_map, joined, BeginsFree}
@@ -21,14 +20,16 @@ use Rattle.dgn_drawing.proofs.FreedRecords.{freed_put}
 use Rattle.nest_tree.proofs.NestingSteps.{flat-forest}
 use Rattle.elem_index.specs.Offsets.{offset_of}
 use Rattle.edit_ops.specs.Trees.{tree_at, live_map, live_tree}
-use Rattle.edit_ops.specs.Applying.{change_of, head_freed, copied, IsEdit}
-use Rattle.edit_ops.specs.Written.{live_puts, IsReady}
+use Rattle.edit_ops.specs.Applying.{head_freed, copied}
+use Rattle.edit_ops.specs.Rules.{Rule}
+use Rattle.edit_ops.specs.Written.{live_puts}
 use Rattle.edit_ops.proofs.PartPlace.{IsPlaced, placed, first_left}
 use Rattle.edit_ops.proofs.EachLive.{tree_each, live_tree_each}
 use Rattle.edit_ops.proofs.RowsKept.{live_looks, live_map_each}
 use Rattle.edit_ops.proofs.TextTurns.{Turns}
 use Rattle.edit_ops.proofs.LoweredPuts.{turned_is}
-use Rattle.edit_ops.proofs.LivePuts.{IsPut, element_put, turns_as, forest_turned}
+use Rattle.edit_ops.proofs.LivePuts.{IsPut, turns_as, forest_turned}
+use Rattle.edit_ops.proofs.KeptRules.{Keeps}
 use Rattle.edit_ops.proofs.EditedBytes.{all_both, all_so}
 use Rattle.edit_ops.proofs.PartNestsAlone.{among_each, row_freed, part_appended}
 
@@ -80,46 +81,46 @@ pub freed_first : (f : Forest Element) → BeginsFree row_of (flat (head_freed f
 freed_first NoTree = tt
 freed_first (Tree knot h below behind) = refl
 
-module _ (dim : ℕ) (axes : IsDimension dim) (es : List Element) (e : Edit) (n : ℕ) (fits : IsEdit e) (each : AllByRecursion (IsWellFormed dim) es)
-    (able : AllByRecursion (λ v. IsReady dim e v.element) (live_tree es n)) where
+module _ (dim : ℕ) (es : List Element) (r : Rule) (Ready : Element → Type 0) (keeps : Keeps dim r Ready) (n : ℕ)
+    (each : AllByRecursion (IsWellFormed dim) es) (able : AllByRecursion (λ v. Ready v.element) (live_tree es n)) where
   -- the part, and the part with its live elements changed
   abbrev part : Forest Element
   part = tree_at n (forest row_of es)
 
   abbrev changed : Forest Element
-  changed = live_map (λ member. member.deleted) (change_of dim e) (tree_at n (forest row_of es))
+  changed = live_map (λ member. member.deleted) r.made (tree_at n (forest row_of es))
 
   part_good : AllByRecursion (IsWellFormed dim) (flat part)
   part_good = tree_each (IsWellFormed dim) n (forest row_of es) (subst (AllByRecursion (IsWellFormed dim)) (sym (flat-forest row_of es)) each)
 
   -- what the edit puts is right for each live element
-  each_put : AllByRecursion (λ v. IsPut dim e v.element) (live_tree es n)
-  each_put = all_both (λ v. IsWellFormed dim v.element) (λ v. IsReady dim e v.element) (λ v. IsPut dim e v.element)
-      (λ v good ready. element_put dim axes e fits v.element good ready) (live_tree es n) (live_tree_each (IsWellFormed dim) es n each) able
+  each_put : AllByRecursion (λ v. IsPut dim r v.element) (live_tree es n)
+  each_put = all_both (λ v. IsWellFormed dim v.element) (λ v. Ready v.element) (λ v. IsPut dim r v.element)
+      (λ v good ready. keeps.live v.element good ready) (live_tree es n) (live_tree_each (IsWellFormed dim) es n each) able
 
   -- so the puts turn the bytes of the part
-  pub part_turned : Turns (offset_of es n) (spelling (flat part)) (live_puts dim e (live_tree es n)) (spelling (flat changed))
-  part_turned = forest_turned dim axes e fits part n (offset_of es n) part_good able
+  pub part_turned : Turns (offset_of es n) (spelling (flat part)) (live_puts r (live_tree es n)) (spelling (flat changed))
+  part_turned = forest_turned dim r Ready keeps.live part n (offset_of es n) part_good able
 
   pub changed_good : AllByRecursion (IsWellFormed dim) (flat changed)
-  changed_good = live_map_each (change_of dim e) (IsWellFormed dim) n (offset_of es n) part part_good
-      (all_so (λ v. IsPut dim e v.element) (λ v. IsWellFormed dim (change_of dim e v.element)) (λ v is. is.good) (live_tree es n) each_put)
+  changed_good = live_map_each r.made (IsWellFormed dim) n (offset_of es n) part part_good
+      (all_so (λ v. IsPut dim r v.element) (λ v. IsWellFormed dim (r.made v.element)) (λ v is. is.good) (live_tree es n) each_put)
 
   -- and its rows stay
   changed_looks : forest_map row_of changed ≡ forest_map row_of part
-  changed_looks = live_looks (change_of dim e) n (offset_of es n) part
-      (all_so (λ v. IsPut dim e v.element) (λ v. row_of (change_of dim e v.element) ≡ row_of v.element) (λ v is. is.row) (live_tree es n) each_put)
+  changed_looks = live_looks r.made n (offset_of es n) part
+      (all_so (λ v. IsPut dim r v.element) (λ v. row_of (r.made v.element) ≡ row_of v.element) (λ v is. is.row) (live_tree es n) each_put)
 
-  pub copied_good : AllByRecursion (IsWellFormed dim) (flat (copied dim es e n))
+  pub copied_good : AllByRecursion (IsWellFormed dim) (flat (copied r es n))
   copied_good = freed_each dim changed changed_good
 
   -- the copy is as long as the part
-  pub copied_long : length (spelling (flat (copied dim es e n))) ≡ length (spelling (flat (tree_at n (forest row_of es))))
+  pub copied_long : length (spelling (flat (copied r es n))) ≡ length (spelling (flat (tree_at n (forest row_of es))))
   copied_long = freed_long dim changed changed_good ∙ sym part_turned.same
 
   -- where the puts of the edit are laid in the bytes of the part, they rise in it
   module _ (start : ℕ) (bytes : List ℕ) (puts : List Put) (at : start ≡ offset_of es n) (bytes_are : bytes ≡ spelling (flat (tree_at n (forest row_of es))))
-      (puts_are : puts ≡ live_puts dim e (live_tree es n)) where
+      (puts_are : puts ≡ live_puts r (live_tree es n)) where
     turned_so : Turns start bytes puts (spelling (flat changed))
     turned_so =
         subst (λ (k : ℕ). Turns k bytes puts (spelling (flat changed))) (sym at)
@@ -130,24 +131,24 @@ module _ (dim : ℕ) (axes : IsDimension dim) (es : List Element) (e : Edit) (n 
 
     -- and what they give is, with the head freed, the bytes of the copy
     pub bytes_copied : (laid : List ℕ) → ((a : List ℕ) → length a ≡ start → write (a ++ bytes) puts ≡ a ++ laid)
-        → slice_set laid 0 (slice_index laid 0 % 128) ≡ spelling (flat (copied dim es e n))
+        → slice_set laid 0 (slice_index laid 0 % 128) ≡ spelling (flat (copied r es n))
     bytes_copied laid give =
         ap (λ (b : List ℕ). slice_set b 0 (slice_index b 0 % 128)) (turned_is start bytes (spelling (flat changed)) laid puts turned_so give)
         ∙ freed_bytes dim changed changed_good
 
   module _ (known : n < length es) (later : 0 < n) (head : Element) (there : slice_get es n ≡ Some head) (spots : has_spots (class_of head.kind) ≡ true) where
     -- the copy nests behind the drawing as the copied part
-    pub copied_nests : forest row_of (es ++ flat (copied dim es e n)) ≡ joined (forest row_of es) (copied dim es e n)
+    pub copied_nests : forest row_of (es ++ flat (copied r es n)) ≡ joined (forest row_of es) (copied r es n)
     copied_nests =
         let p : IsPlaced es n = placed es n known in
         let left : drop n es ≡ (p.head ∷ flat p.below) ++ p.behind = ap (drop n) p.parts ∙ drop_at p.front ((p.head ∷ flat p.below) ++ p.behind) n p.count in
         let both : Some p.head ≡ Some head = sym (first_left es n p.head (flat p.below ++ p.behind) left) ∙ there in
         let same : p.head ≡ head = cc in
         let movable : has_spots (class_of p.head.kind) ≡ true = ap (λ (x : Element). has_spots (class_of x.kind)) same ∙ spots in
-        let there_is : changed ≡ live_map (λ member. member.deleted) (change_of dim e) (Tree p.knot p.head p.below NoTree) =
-        ap (live_map (λ member. member.deleted) (change_of dim e)) p.tree in
-        let other : Element = cond p.head.deleted p.head (change_of dim e p.head) in
-        let inner : Forest Element = cond p.head.deleted p.below (live_map (λ member. member.deleted) (change_of dim e) p.below) in
+        let there_is : changed ≡ live_map (λ member. member.deleted) r.made (Tree p.knot p.head p.below NoTree) =
+        ap (live_map (λ member. member.deleted) r.made) p.tree in
+        let other : Element = cond p.head.deleted p.head (r.made p.head) in
+        let inner : Forest Element = cond p.head.deleted p.below (live_map (λ member. member.deleted) r.made p.below) in
         let looks : Tree p.knot (row_of other) (forest_map row_of inner) NoTree ≡ Tree p.knot (row_of p.head) (forest_map row_of p.below) NoTree =
         ap (forest_map row_of) (sym there_is) ∙ changed_looks ∙ ap (forest_map row_of) p.tree in
         let row : row_of other ≡ row_of p.head = cc in

@@ -13,24 +13,27 @@ use Rattle.dgn_drawing.specs.Opening.{Opens}
 use Rattle.dgn_drawing.proofs.FirstElements.{dimension_is}
 use Rattle.nest_tree.proofs.NestingSteps.{flat-forest}
 use Rattle.edit_ops.specs.declared.types.plan.Plan.{Plan}
-use Rattle.edit_ops.specs.declared.asking.test.Test.TheVariants as tests
+use Rattle.edit_ops.specs.declared.causes.test.Test.TheVariants as tests
 use Rattle.edit_ops.specs.Trees.{tree_at, live_map, live_tree}
 use Rattle.edit_ops.specs.Causes.{first_cause, other_axes, too_long, bytes_appended, cause_of}
 use Rattle.edit_ops.specs.Applying.{Done, apply, copied, changed_forest}
+use Rattle.edit_ops.specs.Rules.{displacing}
+use Rattle.edit_ops.specs.Written.{IsReady}
 use Rattle.edit_ops.specs.Planned.{IsPlan}
 use Rattle.edit_ops.specs.Laws.{ChangesItsFields}
 use Rattle.edit_ops.proofs.PartPlace.{flat-joined}
 use Rattle.edit_ops.proofs.AcceptedEdit.{IsAccepted, accepted, named_cause, none_both, done_is}
 use Rattle.edit_ops.proofs.AppendedElements.{appended_opens, appended_changes, appended_fits, appended_plan}
 use Rattle.dgn_drawing.specs.declared.limits.TheConstants.{MOST_DESIGN}
+use Rattle.edit_ops.proofs.KeptRules.{Keeps, edit_keeps}
 use Rattle.edit_ops.proofs.CopiedPart.{freed_first, copied_good, copied_long, copied_nests}
 
 -- the elements that a copy leaves
 pub copy_leaves : (dim : ℕ) (es : List Element) (n : ℕ) (by : Displacement) → flat (changed_forest dim es (edit.Copy n by)) ≡ es
-    ++ flat (copied dim es (edit.Copy n by) n)
+    ++ flat (copied (displacing dim by) es n)
 copy_leaves dim es n by =
-    flat-joined (forest row_of es) (copied dim es (edit.Copy n by) n)
-    ∙ ap (λ (l : List Element). l ++ flat (copied dim es (edit.Copy n by) n)) (flat-forest row_of es)
+    flat-joined (forest row_of es) (copied (displacing dim by) es n)
+    ∙ ap (λ (l : List Element). l ++ flat (copied (displacing dim by) es n)) (flat-forest row_of es)
 
 -- a copy that isn't refused leaves a file that isn't too long
 pub copy_short : (dim : ℕ) (es : List Element) (rest n : ℕ) (by : Displacement) → cause_of dim es rest (edit.Copy n by) ≡ None
@@ -46,9 +49,13 @@ module _ (f : List ℕ) (dim : ℕ) (es : List Element) (t : List ℕ) (rest n :
   dim_is : IsDimension dim
   dim_is = subst IsDimension (sym opens.axes) (dimension_is f)
 
+  -- the row of a copy keeps what it has to
+  keeps : Keeps dim (displacing dim by) (IsReady dim (edit.Copy n by))
+  keeps = edit_keeps dim dim_is (edit.Copy n by) fits
+
   -- the elements of the copy
   abbrev copy : List Element
-  copy = flat (copied dim es (edit.Copy n by) n)
+  copy = flat (copied (displacing dim by) es n)
 
   copy_accepted : cause_of dim es rest (edit.Copy n by) ≡ None → IsAccepted dim es (edit.Copy n by) n
   copy_accepted none = accepted dim es rest (edit.Copy n by) n refl opens.each opens.first none
@@ -61,13 +68,13 @@ module _ (f : List ℕ) (dim : ℕ) (es : List Element) (t : List ℕ) (rest n :
     none = (done_is dim es rest (edit.Copy n by) left done).0
 
     long : length (spelling copy) ≡ bytes_appended es (edit.Copy n by)
-    long = copied_long dim dim_is es (edit.Copy n by) n fits opens.each (copy_accepted none).able
+    long = copied_long dim es (displacing dim by) (IsReady dim (edit.Copy n by)) keeps n opens.each (copy_accepted none).able
 
     -- the drawing with the copy opens
     pub copy_opens : Opens (spelling left ++ t) dim left t
     copy_opens =
         subst (λ (l : List Element). Opens (spelling l ++ t) dim l t) (sym left_is)
-        (appended_opens f dim es copy t opens (copied_good dim dim_is es (edit.Copy n by) n fits opens.each (copy_accepted none).able))
+        (appended_opens f dim es copy t opens (copied_good dim es (displacing dim by) (IsReady dim (edit.Copy n by)) keeps n opens.each (copy_accepted none).able))
 
     -- it keeps the limit of a design file
     pub copy_fits : length (spelling es) + rest ≤ MOST_DESIGN → length (spelling left) + rest ≤ MOST_DESIGN
@@ -82,10 +89,10 @@ module _ (f : List ℕ) (dim : ℕ) (es : List Element) (t : List ℕ) (rest n :
         subst (ChangesItsFields dim es (edit.Copy n by)) (sym left_is)
         (appended_changes dim es copy (edit.Copy n by) refl long
         (freed_first (live_map (λ member. member.deleted) (shift dim by) (tree_at n (forest row_of es))))
-        (copied_nests dim dim_is es (edit.Copy n by) n fits opens.each able.able able.known able.later able.head able.there able.head_able.0))
+        (copied_nests dim es (displacing dim by) (IsReady dim (edit.Copy n by)) keeps n opens.each able.able able.known able.later able.head able.there able.head_able.0))
 
 -- a copy that isn't refused is planned by its bytes
 pub copy_plan : (dim : ℕ) (es : List Element) (rest n : ℕ) (by : Displacement) (p : Plan) → cause_of dim es rest (edit.Copy n by) ≡ None
-    → p.patches ≡ [] → p.append ≡ spelling (flat (copied dim es (edit.Copy n by) n)) → IsPlan dim es rest (edit.Copy n by) p
+    → p.patches ≡ [] → p.append ≡ spelling (flat (copied (displacing dim by) es n)) → IsPlan dim es rest (edit.Copy n by) p
 copy_plan dim es rest n by p none patches append =
-    appended_plan dim es (flat (copied dim es (edit.Copy n by) n)) (edit.Copy n by) refl rest p none (copy_leaves dim es n by) patches append
+    appended_plan dim es (flat (copied (displacing dim by) es n)) (edit.Copy n by) refl rest p none (copy_leaves dim es n by) patches append

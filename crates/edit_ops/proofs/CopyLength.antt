@@ -9,7 +9,7 @@ use Rattle.elem_index.specs.declared.design.Design.{Design}
 use Rattle.elem_index.specs.Design.{elements, IsWhole}
 use Rattle.elem_index.proofs.Places.{body_is}
 use Rattle.edit_ops.specs.declared.causes.cause.Cause.{Cause}
-use Rattle.edit_ops.specs.declared.asking.test.Test.TheVariants as tests
+use Rattle.edit_ops.specs.declared.causes.test.Test.TheVariants as tests
 use Rattle.edit_ops.specs.Trees.{live_tree}
 use Rattle.edit_ops.specs.Causes.{other_axes, first_cause, too_long, bytes_appended, part_cause, causes_of, first_of}
 use Rattle.edit_ops.specs.Copying.{copy_cause}

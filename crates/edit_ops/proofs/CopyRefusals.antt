@@ -8,8 +8,8 @@ use Rattle.dgn_drawing.specs.Element.{Element}
 use Rattle.dgn_drawing.specs.Changes.{stays_on_plane}
 use Rattle.edit_ops.specs.declared.causes.cause.Cause.{Cause}
 use Rattle.edit_ops.specs.declared.causes.cause.Cause.TheVariants as causes
-use Rattle.edit_ops.specs.declared.asking.test.Test.{Test}
-use Rattle.edit_ops.specs.declared.asking.test.Test.TheVariants as tests
+use Rattle.edit_ops.specs.declared.causes.test.Test.{Test}
+use Rattle.edit_ops.specs.declared.causes.test.Test.TheVariants as tests
 use Rattle.edit_ops.specs.Trees.{Live, live_tree}
 use Rattle.edit_ops.specs.Causes.{unmovable, off_plane, cause_at, first_cause}
 use Rattle.edit_ops.specs.Copying.{copy_cause}

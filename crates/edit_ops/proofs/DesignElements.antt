@@ -12,7 +12,7 @@ use Rattle.elem_index.specs.declared.design.Design.{Design}
 use Rattle.elem_index.specs.Design.{elements, IsWhole}
 use Rattle.elem_index.specs.Offsets.{offset_of}
 use Rattle.elem_index.proofs.Places.{axes_of, each_at, stands_at, body_is}
-use Rattle.edit_ops.specs.declared.asking.element_view.ElementView.{ElementView}
+use Rattle.edit_ops.specs.declared.elements.element_view.ElementView.{ElementView}
 use Rattle.edit_ops.specs.ElementViews.{IsElementView}
 use Rattle.dgn_drawing.specs.declared.limits.TheConstants.{MOST_DESIGN}
 

@@ -12,7 +12,6 @@ use Rattle.patch_bytes.proofs.RisingPuts.{span_within}
 use Rattle.dgn_drawing.specs.declared.edit.Edit.{Edit}
 use Rattle.dgn_drawing.specs.declared.edit.Edit.TheVariants as edit
 use Rattle.dgn_drawing.specs.declared.row.Row.{Row}
-use Rattle.dgn_drawing.specs.Values.{Displacement}
 use Rattle.dgn_drawing.specs.Element.{Element}
 use Rattle.dgn_drawing.specs.Spelling.{spelling}
 use Rattle.dgn_drawing.specs.WellFormed.{IsWellFormed}
@@ -21,9 +20,11 @@ use Rattle.dgn_drawing.specs.Nesting.{flat, BeginsFree}
 use Rattle.dgn_drawing.specs.Opening.{dimension, Opens}
 use Rattle.edit_ops.specs.Trees.{live_map, live_tree, above_tree}
 use Rattle.edit_ops.specs.Causes.{target_of, cause_of, bytes_appended}
-use Rattle.edit_ops.specs.Applying.{Done, apply, change_of, above_change, altered, changed_forest, IsEdit, ChangesInPlace}
-use Rattle.edit_ops.specs.Fields.{IsIn, part_fields, edited_fields, filled}
-use Rattle.edit_ops.specs.Written.{part_puts}
+use Rattle.edit_ops.specs.Applying.{Done, apply, altered, changed_forest, IsEdit, ChangesInPlace}
+use Rattle.edit_ops.specs.Fields.{IsIn, filled}
+use Rattle.edit_ops.specs.EditedFields.{part_fields, edited_fields}
+use Rattle.edit_ops.specs.Rules.{Rule, rule_of}
+use Rattle.edit_ops.specs.Written.{part_puts, IsReady}
 use Rattle.edit_ops.specs.declared.types.plan.Plan.{Plan}
 use Rattle.edit_ops.specs.Planned.{IsPlan}
 use Rattle.edit_ops.specs.Laws.{ChangesItsFields}
@@ -31,6 +32,7 @@ use Rattle.edit_ops.proofs.RowsKept.{rows_kept, nested_as, each_kept}
 use Rattle.edit_ops.proofs.TextTurns.{whole_turned, whole_span}
 use Rattle.edit_ops.proofs.LivePuts.{field_of, IsPut}
 use Rattle.edit_ops.proofs.HeaderPuts.{IsAbovePut}
+use Rattle.edit_ops.proofs.KeptRules.{edit_keeps}
 use Rattle.elem_index.proofs.Places.{opened_axes}
 use Rattle.edit_ops.proofs.EditedBytes.{IsWritten, written, all_so}
 use Rattle.edit_ops.proofs.AcceptedEdit.{IsAccepted, accepted, done_is, done_without_cause}
@@ -46,57 +48,63 @@ none_appended new old same = subst (BeginsFree row_of) (sym (drop_all (length ol
 pub record IsInPlace (dim : ℕ) (es : List Element) (e : Edit) (n : ℕ) : Type 0 where
   pub named : target_of e ≡ Some n
   pub own : ChangesInPlace e
-  pub fields : edited_fields dim es e ≡ part_fields dim es e n
-  pub trees : changed_forest dim es e ≡ altered dim es e n
+  pub fields : edited_fields dim es e ≡ part_fields (rule_of dim e) es n
+  pub trees : changed_forest dim es e ≡ altered (rule_of dim e) es n
   pub appended : bytes_appended es e ≡ 0
 
 -- an edit of an element does so, where it isn't a copy
-pub in_place : (dim : ℕ) (es : List Element) (e : Edit) (n : ℕ) → target_of e ≡ Some n → ((m : ℕ) (by : Displacement) → e ≡ edit.Copy m by → ⊥)
-    → IsInPlace dim es e n
+pub in_place : (dim : ℕ) (es : List Element) (e : Edit) (n : ℕ) → target_of e ≡ Some n → ChangesInPlace e → IsInPlace dim es e n
 in_place dim es (edit.Move m by) n named here =
     let same : m ≡ n = let x = named in cc in
     subst (IsInPlace dim es (edit.Move m by)) same (record { named = refl; own = tt; fields = refl; trees = refl; appended = refl })
-in_place dim es (edit.Copy m by) n named here = absurd (here m by refl)
+in_place dim es (edit.Copy m by) n named here = absurd here
 in_place dim es (edit.Sym m change) n named here =
     let same : m ≡ n = let x = named in cc in
     subst (IsInPlace dim es (edit.Sym m change)) same (record { named = refl; own = tt; fields = refl; trees = refl; appended = refl })
 in_place dim es (edit.Delete m) n named here =
     let same : m ≡ n = let x = named in cc in
     subst (IsInPlace dim es (edit.Delete m)) same (record { named = refl; own = tt; fields = refl; trees = refl; appended = refl })
-in_place dim es (edit.Append new) n named here = absurd (let x = named in cc)
+in_place dim es (edit.Append new) n named here = absurd here
 
 -- an edit of an element without a cause has its puts right, also where they are those of the part's copy
 pub named_written : (f : List ℕ) (dim : ℕ) (es : List Element) (t : List ℕ) (rest : ℕ) (e : Edit) (n : ℕ) → IsEdit e → Opens f dim es t
     → target_of e ≡ Some n → cause_of dim es rest e ≡ None
-    → IsAccepted dim es e n × IsWritten dim es e n
+    → IsAccepted dim es e n × IsWritten dim es (rule_of dim e) n
 named_written f dim es t rest e n fits opens named none =
-    let able = accepted dim es rest e n named opens.each opens.first none in
-    (able, written dim (opened_axes f dim es t opens) es e fits opens.each n able.known able.head able.there able.head_able able.able)
+    let able = accepted dim es rest e n named opens.each opens.first none in (
+      able,
+      written dim es (rule_of dim e) (IsReady dim e) (edit_keeps dim (opened_axes f dim es t opens) e fits) opens.each n able.known able.head able.there
+          able.head_able able.able,
+    )
 
 module _ (f : List ℕ) (dim : ℕ) (es : List Element) (t : List ℕ) (rest : ℕ) (e : Edit) (n : ℕ) (fits : IsEdit e) (opens : Opens f dim es t)
     (here : IsInPlace dim es e n) where
+  -- the row of the edit
+  abbrev row : Rule
+  row = rule_of dim e
+
   -- one that is done writes its puts
-  pub done_written : (made : List Element) → apply dim es rest e ≡ Done made → IsAccepted dim es e n × IsWritten dim es e n
+  pub done_written : (made : List Element) → apply dim es rest e ≡ Done made → IsAccepted dim es e n × IsWritten dim es row n
   done_written made done = named_written f dim es t rest e n fits opens here.named (done_is dim es rest e made done).0
 
   -- it leaves the altered trees
-  pub done_altered : (made : List Element) → apply dim es rest e ≡ Done made → made ≡ flat (altered dim es e n)
+  pub done_altered : (made : List Element) → apply dim es rest e ≡ Done made → made ≡ flat (altered row es n)
   done_altered made done = (done_is dim es rest e made done).1 ∙ ap flat here.trees
 
   -- what it leaves opens in the same dimension, with the same tail
   pub opens_in_place : (made : List Element) → apply dim es rest e ≡ Done made → Opens (spelling made ++ t) dim made t
   opens_in_place made done =
       let both = done_written made done in
-      let heads : AllByRecursion (λ v. IsWellFormed dim (above_change dim e (slice_get es n) v.element)) (above_tree es n) =
-      all_so (λ v. IsAbovePut dim e (slice_get es n) v.element) (λ v. IsWellFormed dim (above_change dim e (slice_get es n) v.element)) (λ v is. is.good)
+      let heads : AllByRecursion (λ v. IsWellFormed dim (row.above (slice_get es n) v.element)) (above_tree es n) =
+      all_so (λ v. IsAbovePut dim row (slice_get es n) v.element) (λ v. IsWellFormed dim (row.above (slice_get es n) v.element)) (λ v is. is.good)
       (above_tree es n) both.1.each_above in
-      let goods : AllByRecursion (λ v. IsWellFormed dim (change_of dim e v.element)) (live_tree es n) =
-      all_so (λ v. IsPut dim e v.element) (λ v. IsWellFormed dim (change_of dim e v.element)) (λ v is. is.good) (live_tree es n) both.1.each in
-      let first = begins_same dim es n (above_change dim e (slice_get es n)) (live_map (λ member. member.deleted) (change_of dim e)) t
+      let goods : AllByRecursion (λ v. IsWellFormed dim (row.made v.element)) (live_tree es n) =
+      all_so (λ v. IsPut dim row v.element) (λ v. IsWellFormed dim (row.made v.element)) (λ v is. is.good) (live_tree es n) both.1.each in
+      let first = begins_same dim es n (row.above (slice_get es n)) (live_map (λ member. member.deleted) row.made) t
       (opened_axes f dim es t opens) opens.each opens.first both.0.later in
       subst (λ (l : List Element). Opens (spelling l ++ t) dim l t) (sym (done_altered made done)) (record {
         whole = refl;
-        each = each_kept es n (above_change dim e (slice_get es n)) (change_of dim e) (IsWellFormed dim) opens.each heads goods;
+        each = each_kept es n (row.above (slice_get es n)) row.made (IsWellFormed dim) opens.each heads goods;
         first = first.0;
         tail = opens.tail;
         axes = opens.axes ∙ ap dimension opens.whole ∙ sym first.1;
@@ -115,22 +123,22 @@ module _ (f : List ℕ) (dim : ℕ) (es : List Element) (t : List ℕ) (rest : �
   pub changes_in_place : (made : List Element) → apply dim es rest e ≡ Done made → ChangesItsFields dim es e made
   changes_in_place made done =
       let both = done_written made done in
-      let puts : List Put = part_puts dim es e n in
-      let new : List Element = flat (altered dim es e n) in
-      let heads : AllByRecursion (λ v. row_of (above_change dim e (slice_get es n) v.element) ≡ row_of v.element) (above_tree es n) =
-      all_so (λ v. IsAbovePut dim e (slice_get es n) v.element) (λ v. row_of (above_change dim e (slice_get es n) v.element) ≡ row_of v.element)
+      let puts : List Put = part_puts row es n in
+      let new : List Element = flat (altered row es n) in
+      let heads : AllByRecursion (λ v. row_of (row.above (slice_get es n) v.element) ≡ row_of v.element) (above_tree es n) =
+      all_so (λ v. IsAbovePut dim row (slice_get es n) v.element) (λ v. row_of (row.above (slice_get es n) v.element) ≡ row_of v.element)
       (λ v is. is.row) (above_tree es n) both.1.each_above in
-      let keeps : AllByRecursion (λ v. row_of (change_of dim e v.element) ≡ row_of v.element) (live_tree es n) =
-      all_so (λ v. IsPut dim e v.element) (λ v. row_of (change_of dim e v.element) ≡ row_of v.element) (λ v is. is.row) (live_tree es n) both.1.each in
+      let keeps : AllByRecursion (λ v. row_of (row.made v.element) ≡ row_of v.element) (live_tree es n) =
+      all_so (λ v. IsPut dim row v.element) (λ v. row_of (row.made v.element) ≡ row_of v.element) (λ v is. is.row) (live_tree es n) both.1.each in
       let turned = both.1.turned in
       let bytes : write (spelling es) puts ≡ spelling new = whole_turned (spelling es) (spelling new) puts turned in
       let within : AreWithin (length (spelling es)) puts = span_within (length (spelling es)) puts 0 (whole_span (spelling es) (spelling new) puts turned) in
-      let rows : map row_of new ≡ map row_of es = rows_kept es n (above_change dim e (slice_get es n)) (change_of dim e) heads keeps in
+      let rows : map row_of new ≡ map row_of es = rows_kept es n (row.above (slice_get es n)) row.made heads keeps in
       let count : length new ≡ length es = sym (length-map new row_of) ∙ ap (length {A = Row}) rows ∙ length-map es row_of in
       let long : length (spelling new) ≡ length (spelling es) = sym turned.same in
       let none : drop (length (spelling es)) (spelling new) ≡ [] = drop_all (length (spelling es)) (spelling new) (omega arith) in
-      let fields : map field_of puts ≡ edited_fields dim es e = both.1.fields here.own ∙ sym here.fields in
-      let filled_puts : puts ≡ filled (spelling new) (edited_fields dim es e) = both.1.puts here.own ∙ ap (filled (spelling new)) (sym here.fields) in
+      let fields : map field_of puts ≡ edited_fields dim es e = both.1.fields ∙ sym here.fields in
+      let filled_puts : puts ≡ filled (spelling new) (edited_fields dim es e) = both.1.puts ∙ ap (filled (spelling new)) (sym here.fields) in
       subst (ChangesItsFields dim es e) (sym (done_altered made done)) (record {
         stays = λ k below all.
             let free : AllByRecursion (λ f. ¬ IsIn f k) (map field_of puts) =
@@ -141,11 +149,11 @@ module _ (f : List ℕ) (dim : ℕ) (es : List Element) (t : List ℕ) (rest : �
         long = omega (arith, long, here.appended);
         rows = ap (map row_of) (take_all (length es) new (omega arith)) ∙ rows;
         appended = none_appended new es count;
-        nested = nested_as es n (above_change dim e (slice_get es n)) (change_of dim e) heads keeps ∙ sym here.trees;
+        nested = nested_as es n (row.above (slice_get es n)) row.made heads keeps ∙ sym here.trees;
       })
 
   -- where no cause stands, the puts of the part and of the headers above it, with nothing to append, are the plan
-  pub plan_is : (p : Plan) → cause_of dim es rest e ≡ None → p.patches ≡ part_puts dim es e n → p.append ≡ [] → IsPlan dim es rest e p
+  pub plan_is : (p : Plan) → cause_of dim es rest e ≡ None → p.patches ≡ part_puts row es n → p.append ≡ [] → IsPlan dim es rest e p
   plan_is p none patches append =
       let new : List Element = flat (changed_forest dim es e) in
       let done : apply dim es rest e ≡ Done new = done_without_cause dim es rest e none in
@@ -154,7 +162,7 @@ module _ (f : List ℕ) (dim : ℕ) (es : List Element) (t : List ℕ) (rest : �
       record {
         made = new;
         done = done;
-        patches = patches ∙ wrote.puts here.own ∙ ap (λ (l : List Element). filled (spelling l) (part_fields dim es e n)) (sym (ap flat here.trees))
+        patches = patches ∙ wrote.puts ∙ ap (λ (l : List Element). filled (spelling l) (part_fields row es n)) (sym (ap flat here.trees))
             ∙ ap (filled (spelling new)) (sym here.fields);
         append = append ∙ sym (drop_all (length (spelling es)) (spelling new) (omega arith));
       }

@@ -11,13 +11,13 @@ use Rattle.edit_ops.proofs.EditInPlace.{IsInPlace, in_place, opens_in_place, fit
 
 -- a move, a change of the look and a deletion change the part in its place
 move_here : (dim : ℕ) (es : List Element) (n : ℕ) (by : Displacement) → IsInPlace dim es (edit.Move n by) n
-move_here dim es n by = in_place dim es (edit.Move n by) n refl (λ m d is. let x = is in cc)
+move_here dim es n by = in_place dim es (edit.Move n by) n refl tt
 
 look_here : (dim : ℕ) (es : List Element) (n : ℕ) (change : LookChange) → IsInPlace dim es (edit.Sym n change) n
-look_here dim es n change = in_place dim es (edit.Sym n change) n refl (λ m d is. let x = is in cc)
+look_here dim es n change = in_place dim es (edit.Sym n change) n refl tt
 
 mark_here : (dim : ℕ) (es : List Element) (n : ℕ) → IsInPlace dim es (edit.Delete n) n
-mark_here dim es n = in_place dim es (edit.Delete n) n refl (λ m d is. let x = is in cc)
+mark_here dim es n = in_place dim es (edit.Delete n) n refl tt
 
 -- what an edit that is done leaves opens in the same dimension, with the same tail
 pub edited_opens : EditedDrawingsOpen

@@ -28,13 +28,14 @@ use Rattle.elem_index.specs.declared.design.Design.{Design}
 use Rattle.elem_index.specs.Design.{elements, IsWhole}
 use Rattle.elem_index.specs.Offsets.{offset_of}
 use Rattle.edit_ops.specs.declared.causes.cause.Cause.TheVariants as causes
-use Rattle.edit_ops.specs.declared.asking.element_view.ElementView.{ElementView}
-use Rattle.edit_ops.specs.declared.asking.test.Test.{Test}
-use Rattle.edit_ops.specs.declared.asking.test.Test.TheVariants as tests
+use Rattle.edit_ops.specs.declared.elements.element_view.ElementView.{ElementView}
+use Rattle.edit_ops.specs.declared.causes.test.Test.{Test}
+use Rattle.edit_ops.specs.declared.causes.test.Test.TheVariants as tests
 use Rattle.edit_ops.specs.Trees.{Live, found_at}
 use Rattle.edit_ops.specs.Causes.{says_locked, is_locked}
 use Rattle.edit_ops.specs.Asking.{cause_in, MayBeAskedOf, locked_in}
-use Rattle.edit_ops.specs.Written.{sum_put, live_puts, look_put, new_look}
+use Rattle.edit_ops.specs.Rules.{displacing, recolouring, sum_put, look_put}
+use Rattle.edit_ops.specs.Written.{live_puts, new_look}
 use Rattle.edit_ops.specs.Putting.{MayBePut}
 use Rattle.edit_ops.specs.ElementViews.{IsElementView}
 use Rattle.edit_ops.proofs.ReadableElements.{IsShown, is_shown, shown_long, not_silent_form}
@@ -143,13 +144,13 @@ module _ (d : Design) (whole : IsWhole d) (m : ℕ) (f : ElementView) (found : I
       body.0.symbology
 
   -- what another look puts into it
-  pub look_found : (change : LookChange) (n : ℕ) → is_silent (class_of found.element.kind) ≡ false
-      → live_puts d.dim (edit.Sym n change) (option_to_list (found_at (elements d) m))
+  pub look_found : (change : LookChange) → is_silent (class_of found.element.kind) ≡ false
+      → live_puts (recolouring change) (option_to_list (found_at (elements d) m))
       ≡ record { at = f.place + 34; bytes = new_look change (symbology_of f.bytes.now) } ∷ []
-  look_found change n loud =
+  look_found change loud =
       let shown = shown_found loud in
       let e : Element = found.element in
-      ap (λ (o : Option Element). live_puts d.dim (edit.Sym n change)
+      ap (λ (o : Option Element). live_puts (recolouring change)
       (option_to_list (option_map (λ (x : Element). record { number = m; place = offset_of (elements d) m; element = x }) o))) found.there
       ∙ append-nil (look_put change (offset_of (elements d) m) e.body)
       ∙ ap (look_put change (offset_of (elements d) m)) shown.body
@@ -158,11 +159,11 @@ module _ (d : Design) (whole : IsWhole d) (m : ℕ) (f : ElementView) (found : I
       ∙ ap (λ (b : List ℕ). record { at = f.place + 34; bytes = new_look change (symbology_of b) } ∷ []) (sym found.bytes)
 
   -- what a move or a copy puts into it
-  pub moved_found : (by : Displacement) (n : ℕ) → live_puts d.dim (edit.Move n by) (option_to_list (found_at (elements d) m))
+  pub moved_found : (by : Displacement) → live_puts (displacing d.dim by) (option_to_list (found_at (elements d) m))
       ≡ map (sum_put by f.place f.bytes.now) (spots_of d.dim f.kind f.bytes.now)
-  moved_found by n =
+  moved_found by =
       let e : Element = found.element in
-      ap (λ (o : Option Element). live_puts d.dim (edit.Move n by)
+      ap (λ (o : Option Element). live_puts (displacing d.dim by)
       (option_to_list (option_map (λ (x : Element). record { number = m; place = offset_of (elements d) m; element = x }) o))) found.there
       ∙ append-nil (map (sum_put by (offset_of (elements d) m) (spell e)) (spots_of d.dim e.kind (spell e)))
       ∙ ap (λ (p : ℕ). map (sum_put by p (spell e)) (spots_of d.dim e.kind (spell e))) (sym found.place)

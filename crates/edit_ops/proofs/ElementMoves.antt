@@ -8,8 +8,8 @@ use Rattle.dgn_layout.specs.declared.spot.Spot.{Spot}
 use Rattle.dgn_drawing.specs.Element.{Element}
 use Rattle.elem_index.specs.declared.design.Design.{Design}
 use Rattle.elem_index.specs.Design.{elements, IsWhole}
-use Rattle.edit_ops.specs.declared.asking.element_view.ElementView.{ElementView}
-use Rattle.edit_ops.specs.declared.asking.test.Test.TheVariants as tests
+use Rattle.edit_ops.specs.declared.elements.element_view.ElementView.{ElementView}
+use Rattle.edit_ops.specs.declared.causes.test.Test.TheVariants as tests
 use Rattle.edit_ops.specs.Causes.{unmovable}
 use Rattle.edit_ops.specs.Asking.{cause_in}
 use Rattle.edit_ops.specs.ElementViews.{IsElementView}

@@ -16,9 +16,11 @@ use Rattle.dgn_drawing.specs.Opening.{Opens}
 use Rattle.elem_index.specs.Offsets.{offset_of}
 use Rattle.edit_ops.specs.Trees.{Live, live_tree, above_tree}
 use Rattle.edit_ops.specs.Causes.{target_of}
-use Rattle.edit_ops.specs.Applying.{Done, apply, altered, above_change, change_of, IsEdit, ChangesInPlace}
-use Rattle.edit_ops.specs.Fields.{Field, Rise, fields_at, above_fields_at, above_fields, live_fields, part_fields, edited_fields}
-use Rattle.edit_ops.specs.Written.{puts_at, above_puts_at, part_puts}
+use Rattle.edit_ops.specs.Applying.{Done, apply, altered, IsEdit}
+use Rattle.edit_ops.specs.Fields.{Field, Rise}
+use Rattle.edit_ops.specs.EditedFields.{above_fields, live_fields, part_fields, edited_fields}
+use Rattle.edit_ops.specs.Rules.{Rule, rule_of}
+use Rattle.edit_ops.specs.Written.{part_puts}
 use Rattle.edit_ops.specs.Laws.{LieIn, FieldsLieApart, EditedFieldsAreApart}
 use Rattle.edit_ops.proofs.EachLive.{each_both}
 use Rattle.edit_ops.proofs.TextTurns.{Turns, whole_span}
@@ -80,45 +82,36 @@ lie_in fields vs inside =
     (all_so (LieInside fields) (λ (v : Live). All (LiesIn v.place (v.place + size_of v.element)) (fields v))
     (λ v is. All-from_recursion (LiesIn v.place (v.place + size_of v.element)) (fields v) is) vs inside)
 
--- no fields lie in each
-none_inside : (fields : Live → List Field) → ((v : Live) → fields v ≡ []) → (vs : List Live) → AllByRecursion (LieInside fields) vs
-none_inside fields none [] = tt
-none_inside fields none (v ∷ vs) =
-    (subst (AllByRecursion (LiesIn v.place (v.place + size_of v.element))) (sym (none v)) tt, none_inside fields none vs)
-
 -- the fields of the live elements of a part lie in these, and those of the headers above in those
-live_inside : (dim : ℕ) (es : List Element) (e : Edit) (n : ℕ) → ChangesInPlace e → IsWritten dim es e n
-    → AllByRecursion (LieInside (λ v. fields_at dim e v.place v.element)) (live_tree es n)
-live_inside dim es e n own wrote =
-    all_so (λ v. IsPut dim e v.element) (LieInside (λ v. fields_at dim e v.place v.element))
-    (λ v is. turned_inside v (puts_at dim e v.place v.element) (spell (change_of dim e v.element)) (fields_at dim e v.place v.element) (is.turned v.place)
-    (is.fields own v.place))
+live_inside : (dim : ℕ) (es : List Element) (r : Rule) (n : ℕ) → IsWritten dim es r n
+    → AllByRecursion (LieInside (λ v. r.fields v.place v.element)) (live_tree es n)
+live_inside dim es r n wrote =
+    all_so (λ v. IsPut dim r v.element) (LieInside (λ v. r.fields v.place v.element))
+    (λ v is. turned_inside v (r.puts v.place v.element) (spell (r.made v.element)) (r.fields v.place v.element) (is.turned v.place) (is.fields v.place))
     (live_tree es n) wrote.each
 
-above_inside : (dim : ℕ) (es : List Element) (e : Edit) (n : ℕ) → IsWritten dim es e n
-    → AllByRecursion (LieInside (λ v. above_fields_at dim e v.place)) (above_tree es n)
-above_inside dim es e n wrote =
-    all_so (λ v. IsAbovePut dim e (slice_get es n) v.element) (LieInside (λ v. above_fields_at dim e v.place))
-    (λ v is. turned_inside v (above_puts_at dim e (slice_get es n) v.place v.element) (spell (above_change dim e (slice_get es n) v.element))
-    (above_fields_at dim e v.place) (is.turned v.place) (is.fields v.place))
+above_inside : (dim : ℕ) (es : List Element) (r : Rule) (n : ℕ) → IsWritten dim es r n → AllByRecursion (LieInside (λ v. r.over v.place)) (above_tree es n)
+above_inside dim es r n wrote =
+    all_so (λ v. IsAbovePut dim r (slice_get es n) v.element) (LieInside (λ v. r.over v.place))
+    (λ v is. turned_inside v (r.over_puts (slice_get es n) v.place v.element) (spell (r.above (slice_get es n) v.element)) (r.over v.place)
+    (is.turned v.place) (is.fields v.place))
     (above_tree es n) wrote.each_above
 
 -- the fields of a part rise in the drawing
-part_rises : (dim : ℕ) (es : List Element) (e : Edit) (n : ℕ) → ChangesInPlace e → IsWritten dim es e n → Rise 0 (part_fields dim es e n) (length (spelling es))
-part_rises dim es e n own wrote =
-    subst (λ (fs : List Field). Rise 0 fs (length (spelling es))) (wrote.fields own)
-    (fields_rise (length (spelling es)) (part_puts dim es e n) 0
-    (whole_span (spelling es) (spelling (flat (altered dim es e n))) (part_puts dim es e n) wrote.turned))
+part_rises : (dim : ℕ) (es : List Element) (r : Rule) (n : ℕ) → IsWritten dim es r n → Rise 0 (part_fields r es n) (length (spelling es))
+part_rises dim es r n wrote =
+    subst (λ (fs : List Field). Rise 0 fs (length (spelling es))) wrote.fields
+    (fields_rise (length (spelling es)) (part_puts r es n) 0
+    (whole_span (spelling es) (spelling (flat (altered r es n))) (part_puts r es n) wrote.turned))
 
 -- and in the tree that holds the part
-part_in_tree : (dim : ℕ) (es : List Element) (e : Edit) (n root end : ℕ) → ChangesInPlace e → IsWritten dim es e n → LieInTree es n root end
-    → Rise (offset_of es root) (part_fields dim es e n) (offset_of es end)
-part_in_tree dim es e n root end own wrote lie =
-    rise_between (offset_of es root) (offset_of es end) (length (spelling es)) (part_fields dim es e n) 0 lie.rises (part_rises dim es e n own wrote)
-    (each_both (LiesIn (offset_of es root) (offset_of es end)) (above_fields dim e (above_tree es n)) (live_fields dim e (live_tree es n))
-    (fields_spread (offset_of es root) (offset_of es end) (λ v. above_fields_at dim e v.place) (above_tree es n) lie.above (above_inside dim es e n wrote))
-    (fields_spread (offset_of es root) (offset_of es end) (λ v. fields_at dim e v.place v.element) (live_tree es n) lie.live
-    (live_inside dim es e n own wrote)))
+part_in_tree : (dim : ℕ) (es : List Element) (r : Rule) (n root end : ℕ) → IsWritten dim es r n → LieInTree es n root end
+    → Rise (offset_of es root) (part_fields r es n) (offset_of es end)
+part_in_tree dim es r n root end wrote lie =
+    rise_between (offset_of es root) (offset_of es end) (length (spelling es)) (part_fields r es n) 0 lie.rises (part_rises dim es r n wrote)
+    (each_both (LiesIn (offset_of es root) (offset_of es end)) (above_fields r (above_tree es n)) (live_fields r (live_tree es n))
+    (fields_spread (offset_of es root) (offset_of es end) (λ v. r.over v.place) (above_tree es n) lie.above (above_inside dim es r n wrote))
+    (fields_spread (offset_of es root) (offset_of es end) (λ v. r.fields v.place v.element) (live_tree es n) lie.live (live_inside dim es r n wrote)))
 
 -- an edit names one element
 one_target : (e : Edit) (n m : ℕ) → target_of e ≡ Some n → target_of e ≡ Some m → n ≡ m
@@ -126,47 +119,52 @@ one_target e n m a b = cc
 
 module _ (f : List ℕ) (dim : ℕ) (es : List Element) (t : List ℕ) (rest : ℕ) (e : Edit) (made : List Element) (fits : IsEdit e) (opens : Opens f dim es t)
     (done : apply dim es rest e ≡ Done made) where
-  wrote : (n : ℕ) → target_of e ≡ Some n → IsWritten dim es e n
+  -- the row of the edit
+  abbrev row : Rule
+  row = rule_of dim e
+
+  wrote : (n : ℕ) → target_of e ≡ Some n → IsWritten dim es row n
   wrote n named = (named_written f dim es t rest e n fits opens named (done_is dim es rest e made done).0).1
 
   lies : (n root end : ℕ) → target_of e ≡ Some n → root_of row_of es n ≡ Some root → span_of row_of es root ≡ Some (root, end) → LieInTree es n root end
   lies n root end named root_is span =
       lie_in_tree es n root end (named_written f dim es t rest e n fits opens named (done_is dim es rest e made done).0).0.known root_is span
 
+  within : (n : ℕ) → target_of e ≡ Some n → LieIn (λ v. row.fields v.place v.element) (live_tree es n)
+  within n named = lie_in (λ v. row.fields v.place v.element) (live_tree es n) (live_inside dim es row n (wrote n named))
+
+  above : (n : ℕ) → target_of e ≡ Some n → LieIn (λ v. row.over v.place) (above_tree es n)
+  above n named = lie_in (λ v. row.over v.place) (above_tree es n) (above_inside dim es row n (wrote n named))
+
   -- the fields of an edit in its place
   apart_in_place : (n : ℕ) → IsInPlace dim es e n → FieldsLieApart dim es e
   apart_in_place n here = record {
-    rise = subst (λ (fs : List Field). Rise 0 fs (length (spelling es))) (sym here.fields) (part_rises dim es e n here.own (wrote n here.named));
+    rise = subst (λ (fs : List Field). Rise 0 fs (length (spelling es))) (sym here.fields) (part_rises dim es row n (wrote n here.named));
     in_tree = λ m root end named root_is span.
         let same : m ≡ n = one_target e m n named here.named in
-        subst (λ (fs : List Field). Rise (offset_of es root) fs (offset_of es end)) (ap (part_fields dim es e) same ∙ sym here.fields)
-        (part_in_tree dim es e m root end here.own (wrote m named) (lies m root end named root_is span));
-    within = λ m named. lie_in (λ v. fields_at dim e v.place v.element) (live_tree es m) (live_inside dim es e m here.own (wrote m named));
-    above = λ m named. lie_in (λ v. above_fields_at dim e v.place) (above_tree es m) (above_inside dim es e m (wrote m named));
+        subst (λ (fs : List Field). Rise (offset_of es root) fs (offset_of es end)) (ap (part_fields row es) same ∙ sym here.fields)
+        (part_in_tree dim es row m root end (wrote m named) (lies m root end named root_is span));
+    within = within;
+    above = above;
   }
 
   -- those of one that writes none
-  apart_none : edited_fields dim es e ≡ [] → ((v : Live) → fields_at dim e v.place v.element ≡ []) → ((v : Live) → above_fields_at dim e v.place ≡ [])
-      → FieldsLieApart dim es e
-  apart_none none none_at none_above = record {
+  apart_none : edited_fields dim es e ≡ [] → FieldsLieApart dim es e
+  apart_none none = record {
     rise = subst (λ (fs : List Field). Rise 0 fs (length (spelling es))) (sym none) (omega arith);
     in_tree = λ m root end named root_is span.
         subst (λ (fs : List Field). Rise (offset_of es root) fs (offset_of es end)) (sym none) (lies m root end named root_is span).rises;
-    within = λ m named. lie_in (λ v. fields_at dim e v.place v.element) (live_tree es m)
-        (none_inside (λ v. fields_at dim e v.place v.element) none_at (live_tree es m));
-    above = λ m named. lie_in (λ v. above_fields_at dim e v.place) (above_tree es m)
-        (none_inside (λ v. above_fields_at dim e v.place) none_above (above_tree es m));
+    within = within;
+    above = above;
   }
 
 -- the fields of an edit that is done rise, in the tree of its element too, and each lies in its element
 pub fields_apart : EditedFieldsAreApart
 fields_apart f dim es t rest (edit.Move n by) made fits opens done =
-    apart_in_place f dim es t rest (edit.Move n by) made fits opens done n (in_place dim es (edit.Move n by) n refl (λ m by is. let x = is in cc))
-fields_apart f dim es t rest (edit.Copy n by) made fits opens done =
-    apart_none f dim es t rest (edit.Copy n by) made fits opens done refl (λ v. refl) (λ v. refl)
+    apart_in_place f dim es t rest (edit.Move n by) made fits opens done n (in_place dim es (edit.Move n by) n refl tt)
+fields_apart f dim es t rest (edit.Copy n by) made fits opens done = apart_none f dim es t rest (edit.Copy n by) made fits opens done refl
 fields_apart f dim es t rest (edit.Sym n change) made fits opens done =
-    apart_in_place f dim es t rest (edit.Sym n change) made fits opens done n (in_place dim es (edit.Sym n change) n refl (λ m by is. let x = is in cc))
+    apart_in_place f dim es t rest (edit.Sym n change) made fits opens done n (in_place dim es (edit.Sym n change) n refl tt)
 fields_apart f dim es t rest (edit.Delete n) made fits opens done =
-    apart_in_place f dim es t rest (edit.Delete n) made fits opens done n (in_place dim es (edit.Delete n) n refl (λ m by is. let x = is in cc))
-fields_apart f dim es t rest (edit.Append new) made fits opens done =
-    apart_none f dim es t rest (edit.Append new) made fits opens done refl (λ v. refl) (λ v. refl)
+    apart_in_place f dim es t rest (edit.Delete n) made fits opens done n (in_place dim es (edit.Delete n) n refl tt)
+fields_apart f dim es t rest (edit.Append new) made fits opens done = apart_none f dim es t rest (edit.Append new) made fits opens done refl

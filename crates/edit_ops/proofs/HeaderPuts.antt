@@ -19,9 +19,11 @@ use Rattle.dgn_drawing.specs.Changes.{shift, body_displaced, display_displaced, 
 use Rattle.dgn_drawing.specs.Rows.{row_of}
 use Rattle.dgn_drawing.proofs.RangesPut.{widen_put}
 use Rattle.edit_ops.specs.Trees.{Live}
-use Rattle.edit_ops.specs.Applying.{holding, above_change, IsEdit}
-use Rattle.edit_ops.specs.Fields.{Field, spot_fields, above_fields_at, above_fields}
-use Rattle.edit_ops.specs.Written.{holding_puts, above_puts_at, above_puts, IsReady}
+use Rattle.edit_ops.specs.Applying.{IsEdit}
+use Rattle.edit_ops.specs.Fields.{Field, spot_fields}
+use Rattle.edit_ops.specs.EditedFields.{above_fields}
+use Rattle.edit_ops.specs.Rules.{Rule, rule_of, holding, holding_puts}
+use Rattle.edit_ops.specs.Written.{above_puts, IsReady}
 use Rattle.edit_ops.proofs.ReadableElements.{IsShown, is_shown, shown_long}
 use Rattle.edit_ops.proofs.TextTurns.{Turns, turns_none, turns_inside}
 use Rattle.edit_ops.proofs.LivePuts.{field_of, moved_numbers, numbers_rise, number_fields, span_from, element_put}
@@ -60,12 +62,12 @@ held dim d parts rest h axes body good shown =
       fields = λ p. number_fields (λ (s : Spot). wider (range_in d) s (value_at (spell h) s)) p (range_spots dim);
     }
 
--- what an edit puts into a header above its element, which is given
-pub record IsAbovePut (dim : ℕ) (e : Edit) (head : Option Element) (h : Element) : Type 0 where
-  pub turned : (p : ℕ) → Turns p (spell h) (above_puts_at dim e head p h) (spell (above_change dim e head h))
-  pub good : IsWellFormed dim (above_change dim e head h)
-  pub row : row_of (above_change dim e head h) ≡ row_of h
-  pub fields : (p : ℕ) → map field_of (above_puts_at dim e head p h) ≡ above_fields_at dim e p
+-- what a row puts into a header above an element, which is given
+pub record IsAbovePut (dim : ℕ) (r : Rule) (head : Option Element) (h : Element) : Type 0 where
+  pub turned : (p : ℕ) → Turns p (spell h) (r.over_puts head p h) (spell (r.above head h))
+  pub good : IsWellFormed dim (r.above head h)
+  pub row : row_of (r.above head h) ≡ row_of h
+  pub fields : (p : ℕ) → map field_of (r.over_puts head p h) ≡ r.over p
 
 -- an element with spots isn't silent
 spots_read : (c : Class) → has_spots c ≡ true → is_silent c ≡ false
@@ -91,7 +93,7 @@ held_moved dim n by v h axes fits well ready good shown =
 
 -- where nothing stands against an edit of the element, it puts into a shown header what it should
 pub above_put : (dim : ℕ) → IsDimension dim → (e : Edit) → IsEdit e → (v h : Element) → IsWellFormed dim v → IsReady dim e v → IsWellFormed dim h
-    → IsShown h → IsAbovePut dim e (Some v) h
+    → IsShown h → IsAbovePut dim (rule_of dim e) (Some v) h
 above_put dim axes (edit.Move n by) fits v h well ready good shown =
     let x = held_moved dim n by v h axes fits well ready good shown in
     record { turned = x.turned; good = x.good; row = x.row; fields = x.fields }
@@ -104,10 +106,10 @@ above_put dim axes (edit.Append new) fits v h well ready good shown =
     record { turned = λ p. turns_none p (spell h); good = good; row = refl; fields = λ p. refl }
 
 -- what is put into headers is laid over their fields
-pub above_fields_put : (dim : ℕ) (e : Edit) (head : Option Element) (vs : List Live) → AllByRecursion (λ v. IsAbovePut dim e head v.element) vs
-    → map field_of (above_puts dim e head vs) ≡ above_fields dim e vs
-above_fields_put dim e head [] puts = refl
-above_fields_put dim e head (v ∷ vs) puts =
-    map-append field_of (above_puts_at dim e head v.place v.element) (above_puts dim e head vs)
-    ∙ ap (λ (fs : List Field). fs ++ map field_of (above_puts dim e head vs)) (puts.0.fields v.place)
-    ∙ ap (λ (fs : List Field). above_fields_at dim e v.place ++ fs) (above_fields_put dim e head vs puts.1)
+pub above_fields_put : (dim : ℕ) (r : Rule) (head : Option Element) (vs : List Live) → AllByRecursion (λ v. IsAbovePut dim r head v.element) vs
+    → map field_of (above_puts r head vs) ≡ above_fields r vs
+above_fields_put dim r head [] puts = refl
+above_fields_put dim r head (v ∷ vs) puts =
+    map-append field_of (r.over_puts head v.place v.element) (above_puts r head vs)
+    ∙ ap (λ (fs : List Field). fs ++ map field_of (above_puts r head vs)) (puts.0.fields v.place)
+    ∙ ap (λ (fs : List Field). r.over v.place ++ fs) (above_fields_put dim r head vs puts.1)

@@ -22,7 +22,9 @@ use Rattle.edit_ops.specs.declared.causes.edit_fault.EditFault.TheVariants as fa
 use Rattle.edit_ops.specs.declared.types.plan.Plan.{Plan}
 use Rattle.edit_ops.specs.Causes.{cause_of, bytes_appended}
 use Rattle.edit_ops.specs.Applying.{Refused, applied_unless, apply, copied, changed_forest, IsEdit}
-use Rattle.edit_ops.specs.Fields.{part_fields, filled}
+use Rattle.edit_ops.specs.Fields.{filled}
+use Rattle.edit_ops.specs.EditedFields.{part_fields}
+use Rattle.edit_ops.specs.Rules.{rule_of, displacing}
 use Rattle.edit_ops.specs.Written.{part_puts}
 use Rattle.edit_ops.specs.Planned.{IsPlan, IsFencePlan, IsRefused}
 use Rattle.edit_ops.specs.Fenced.{edit_at, edits_at, cause_of_all, fenced_forest, apply_all, AreRoots, IsFenceEdit}
@@ -51,7 +53,7 @@ module _ (f : List ℕ) (dim : ℕ) (es : List Element) (t : List ℕ) (opens : 
       omega arith
 
   -- that of an edit in its place
-  own_in_place : (x : Edit) (n : ℕ) (p : Plan) → IsEdit x → IsInPlace dim es x n → own_puts dim es x ≡ part_puts dim es x n → own_bytes dim es x ≡ []
+  own_in_place : (x : Edit) (n : ℕ) (p : Plan) → IsEdit x → IsInPlace dim es x n → own_puts dim es x ≡ part_puts (rule_of dim x) es n → own_bytes dim es x ≡ []
       → IsPlan dim es rest x p
       → IsOwn dim es rest x p
   own_in_place x n p fits here puts none is =
@@ -61,7 +63,7 @@ module _ (f : List ℕ) (dim : ℕ) (es : List Element) (t : List ℕ) (opens : 
       record {
         none = (done_is dim es rest x is.made is.done).0;
         puts = is.patches ∙ ap (filled (spelling is.made)) here.fields
-            ∙ ap (λ (l : List Element). filled (spelling l) (part_fields dim es x n)) made ∙ sym (wrote.puts here.own) ∙ sym puts;
+            ∙ ap (λ (l : List Element). filled (spelling l) (part_fields (rule_of dim x) es n)) made ∙ sym wrote.puts ∙ sym puts;
         bytes = is.append ∙ drop_all (length (spelling es)) (spelling is.made) (omega arith) ∙ sym none;
         long = own_long x p fits is;
       }
@@ -69,7 +71,7 @@ module _ (f : List ℕ) (dim : ℕ) (es : List Element) (t : List ℕ) (opens : 
   -- that of a copy
   own_copy : (n : ℕ) (by : Displacement) (p : Plan) → IsEdit (edit.Copy n by) → IsPlan dim es rest (edit.Copy n by) p → IsOwn dim es rest (edit.Copy n by) p
   own_copy n by p fits is =
-      let copy : List Element = flat (copied dim es (edit.Copy n by) n) in
+      let copy : List Element = flat (copied (displacing dim by) es n) in
       let left : is.made ≡ es ++ copy = (done_is dim es rest (edit.Copy n by) is.made is.done).1 ∙ copy_leaves dim es n by in
       record {
         none = (done_is dim es rest (edit.Copy n by) is.made is.done).0;
@@ -80,13 +82,10 @@ module _ (f : List ℕ) (dim : ℕ) (es : List Element) (t : List ℕ) (opens : 
       }
 
   pub root_own : (e : FenceEdit) (n : ℕ) (p : Plan) → IsFenceEdit e → IsPlan dim es rest (edit_at e n) p → IsOwn dim es rest (edit_at e n) p
-  root_own (fence.Move by) n p fits is =
-      own_in_place (edit.Move n by) n p fits (in_place dim es (edit.Move n by) n refl (λ m d same. let x = same in cc)) refl refl is
+  root_own (fence.Move by) n p fits is = own_in_place (edit.Move n by) n p fits (in_place dim es (edit.Move n by) n refl tt) refl refl is
   root_own (fence.Copy by) n p fits is = own_copy n by p fits is
-  root_own (fence.Sym change) n p fits is =
-      own_in_place (edit.Sym n change) n p fits (in_place dim es (edit.Sym n change) n refl (λ m d same. let x = same in cc)) refl refl is
-  root_own fence.Delete n p fits is =
-      own_in_place (edit.Delete n) n p fits (in_place dim es (edit.Delete n) n refl (λ m d same. let x = same in cc)) refl refl is
+  root_own (fence.Sym change) n p fits is = own_in_place (edit.Sym n change) n p fits (in_place dim es (edit.Sym n change) n refl tt) refl refl is
+  root_own fence.Delete n p fits is = own_in_place (edit.Delete n) n p fits (in_place dim es (edit.Delete n) n refl tt) refl refl is
 
 -- the next of some roots, and those behind it
 next_left : (ns : List ℕ) (i : ℕ) → i < length ns → drop i ns ≡ get_or ns i 0 ∷ drop (i + 1) ns

@@ -3,7 +3,7 @@ use Rattle.std.proofs.Common.{◌≡◌, ℕ, zero, suc, ◌+◌, ◌<◌, ◌�
 use Rattle.std.specs.Prelude.{slice_get}
 use Rattle.std.specs.Option.{option_or}
 use Rattle.edit_ops.specs.declared.causes.cause.Cause.{Cause}
-use Rattle.edit_ops.specs.declared.asking.test.Test.{Test}
+use Rattle.edit_ops.specs.declared.causes.test.Test.{Test}
 use Rattle.edit_ops.specs.Trees.{Live}
 use Rattle.edit_ops.specs.Causes.{cause_at, first_cause}
 use Rattle.edit_ops.specs.Laws.{NumbersRise, IsLeastCause, FirstCauseIsLeast}

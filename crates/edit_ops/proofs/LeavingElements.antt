@@ -18,8 +18,8 @@ use Rattle.edit_ops.specs.declared.causes.cause.Cause.{Cause}
 use Rattle.edit_ops.specs.declared.causes.cause.Cause.TheVariants as causes
 use Rattle.edit_ops.specs.declared.causes.edit_fault.EditFault.{EditFault}
 use Rattle.edit_ops.specs.declared.causes.edit_fault.EditFault.TheVariants as faults
-use Rattle.edit_ops.specs.declared.asking.element_view.ElementView.{ElementView}
-use Rattle.edit_ops.specs.declared.asking.test.Test.TheVariants as tests
+use Rattle.edit_ops.specs.declared.elements.element_view.ElementView.{ElementView}
+use Rattle.edit_ops.specs.declared.causes.test.Test.TheVariants as tests
 use Rattle.edit_ops.specs.Trees.{Live, found_at}
 use Rattle.edit_ops.specs.Causes.{off_plane, cause_at, first_cause}
 use Rattle.edit_ops.specs.Written.{lives_of, IsReady}

@@ -29,6 +29,7 @@ pub mod TextTurns
 pub mod ReadableElements
 pub mod LivePuts
 pub mod HeaderPuts
+pub mod KeptRules
 pub mod PutFields
 pub mod TreesExchanged
 pub mod EditedBytes

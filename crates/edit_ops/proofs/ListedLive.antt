@@ -5,16 +5,16 @@ use Rattle.std.specs.List.{AllByRecursion}
 use Rattle.std.specs.Option.{option_or, option_to_list}
 use Rattle.std.proofs.lemmas.List.{append-nil, drop_more}
 use Rattle.std.proofs.lemmas.List.Concat.{flat_map-append}
-use Rattle.dgn_drawing.specs.declared.edit.Edit.{Edit}
 use Rattle.dgn_drawing.specs.Element.{Element}
 use Rattle.patch_bytes.specs.Puts.{Put}
 use Rattle.elem_index.specs.Offsets.{offset_of}
 use Rattle.edit_ops.specs.declared.causes.cause.Cause.{Cause}
-use Rattle.edit_ops.specs.declared.asking.test.Test.{Test}
+use Rattle.edit_ops.specs.declared.causes.test.Test.{Test}
 use Rattle.edit_ops.specs.Trees.{Live, found_at}
 use Rattle.edit_ops.specs.Causes.{cause_at, first_cause}
 use Rattle.edit_ops.specs.Asking.{cause_in}
-use Rattle.edit_ops.specs.Written.{lives_of, puts_at, live_puts}
+use Rattle.edit_ops.specs.Rules.{Rule}
+use Rattle.edit_ops.specs.Written.{lives_of, live_puts}
 use Rattle.edit_ops.proofs.EachLive.{each_first, each_last}
 
 -- the next of the numbers that are left
@@ -64,12 +64,12 @@ each_next P es live i within each =
     )
 
 -- what is put into the next and those behind it
-pub puts_next : (dim : ℕ) (e : Edit) (es : List Element) (live : List ℕ) (i : ℕ) (done : List Put) → i < length live
-    → (done ++ live_puts dim e (option_to_list (found_at es (get_or live i 0)))) ++ live_puts dim e (lives_of es (drop (i + 1) live)) ≡ done
-    ++ live_puts dim e (lives_of es (drop i live))
-puts_next dim e es live i done within =
+pub puts_next : (r : Rule) (es : List Element) (live : List ℕ) (i : ℕ) (done : List Put) → i < length live
+    → (done ++ live_puts r (option_to_list (found_at es (get_or live i 0)))) ++ live_puts r (lives_of es (drop (i + 1) live)) ≡ done
+    ++ live_puts r (lives_of es (drop i live))
+puts_next r es live i done within =
     let next : List Live = option_to_list (found_at es (get_or live i 0)) in
-    append_assoc done (live_puts dim e next) (live_puts dim e (lives_of es (drop (i + 1) live)))
+    append_assoc done (live_puts r next) (live_puts r (lives_of es (drop (i + 1) live)))
     ∙ ap (λ (ps : List Put). done ++ ps)
-    (sym (flat_map-append (λ v. puts_at dim e v.place v.element) next (lives_of es (drop (i + 1) live)))
-    ∙ ap (live_puts dim e) (sym (found_next es live i within)))
+    (sym (flat_map-append (λ v. r.puts v.place v.element) next (lives_of es (drop (i + 1) live)))
+    ∙ ap (live_puts r) (sym (found_next es live i within)))

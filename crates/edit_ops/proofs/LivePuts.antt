@@ -22,9 +22,11 @@ use Rattle.dgn_drawing.specs.Rows.{row_of}
 use Rattle.dgn_drawing.specs.Nesting.{Forest, NoTree, Tree, flat}
 use Rattle.dgn_drawing.proofs.Looks.{looks_put}
 use Rattle.edit_ops.specs.Trees.{Live, live_map, live_from}
-use Rattle.edit_ops.specs.Applying.{change_of, IsEdit, ChangesInPlace}
-use Rattle.edit_ops.specs.Fields.{Field, spot_fields, fields_at, live_fields}
-use Rattle.edit_ops.specs.Written.{sum_put, look_put, puts_at, live_puts, IsReady}
+use Rattle.edit_ops.specs.Applying.{IsEdit}
+use Rattle.edit_ops.specs.Fields.{Field, spot_fields}
+use Rattle.edit_ops.specs.EditedFields.{live_fields}
+use Rattle.edit_ops.specs.Rules.{Rule, rule_of, displacing, recolouring, sum_put, look_put}
+use Rattle.edit_ops.specs.Written.{live_puts, IsReady}
 use Rattle.dgn_drawing.proofs.SpotValues.{spots_sit}
 use Rattle.dgn_drawing.proofs.DisplacedRecords.{shift_put}
 use Rattle.dgn_drawing.proofs.MarkedRecords.{mark_put}
@@ -82,17 +84,17 @@ pub put_written : (b x : List ℕ) (p : ℕ) → put b p x ≡ write b (record {
 unfolding lay
 put_written b x p = refl
 
--- what an edit puts into an element: it turns the element's bytes into those of the changed one, which is well
+-- what a row puts into an element: it turns the element's bytes into those of the changed one, which is well
 -- formed and nests as it did, and is laid over the element's fields
-pub record IsPut (dim : ℕ) (e : Edit) (v : Element) : Type 0 where
-  pub turned : (p : ℕ) → Turns p (spell v) (puts_at dim e p v) (spell (change_of dim e v))
-  pub good : IsWellFormed dim (change_of dim e v)
-  pub row : row_of (change_of dim e v) ≡ row_of v
-  pub fields : ChangesInPlace e → (p : ℕ) → map field_of (puts_at dim e p v) ≡ fields_at dim e p v
+pub record IsPut (dim : ℕ) (r : Rule) (v : Element) : Type 0 where
+  pub turned : (p : ℕ) → Turns p (spell v) (r.puts p v) (spell (r.made v))
+  pub good : IsWellFormed dim (r.made v)
+  pub row : row_of (r.made v) ≡ row_of v
+  pub fields : (p : ℕ) → map field_of (r.puts p v) ≡ r.fields p v
 
 -- another look of a shown element
-looked : (dim n : ℕ) (change : LookChange) (v : Element) → IsLook change → IsWellFormed dim v → IsShown v → IsPut dim (edit.Sym n change) v
-looked dim n change v fits good shown =
+looked : (dim : ℕ) (change : LookChange) (v : Element) → IsLook change → IsWellFormed dim v → IsShown v → IsPut dim (recolouring change) v
+looked dim change v fits good shown =
     let look = looks_put dim change v shown.display shown.parts shown.rest fits good shown.body in
     let bytes : List ℕ = look_bytes (look_changed change shown.display) in
     let long : 36 ≤ size_of v = shown_long dim v good shown in
@@ -102,19 +104,12 @@ looked dim n change v fits good shown =
       turned = λ p. subst (λ (b : Body). Turns p (spell v) (look_put change p b) (spell (recolour change v))) (sym shown.body) (one p);
       good = look.good;
       row = look.row;
-      fields = λ own p. ap (λ (b : Body). map field_of (look_put change p b)) shown.body;
+      fields = λ p. ap (λ (b : Body). map field_of (look_put change p b)) shown.body;
     }
-
--- what a displacement puts into an element, and what it makes of it
-record IsShifted (dim : ℕ) (by : Displacement) (v : Element) : Type 0 where
-  turned : (p : ℕ) → Turns p (spell v) (map (sum_put by p (spell v)) (spots_of dim v.kind (spell v))) (spell (shift dim by v))
-  good : IsWellFormed dim (shift dim by v)
-  row : row_of (shift dim by v) ≡ row_of v
-  fields : (p : ℕ) → map field_of (map (sum_put by p (spell v)) (spots_of dim v.kind (spell v))) ≡ spot_fields p (spots_of dim v.kind (spell v))
 
 -- of an element that can be moved, and stays on the plane
 shifted : (dim : ℕ) (by : Displacement) (v : Element) → IsDimension dim → IsWellFormed dim v → has_spots (class_of v.kind) ≡ true
-    → stays_on_plane dim by v ≡ true → IsShifted dim by v
+    → stays_on_plane dim by v ≡ true → IsPut dim (displacing dim by) v
 shifted dim by v axes good spots stays =
     let ss : List Spot = spots_of dim v.kind (spell v) in
     let sums = shift_put dim by v axes good spots stays in
@@ -129,20 +124,13 @@ shifted dim by v axes good spots stays =
     }
 
 -- an edit against which nothing stands
-pub element_put : (dim : ℕ) → IsDimension dim → (e : Edit) → IsEdit e → (v : Element) → IsWellFormed dim v → IsReady dim e v → IsPut dim e v
+pub element_put : (dim : ℕ) → IsDimension dim → (e : Edit) → IsEdit e → (v : Element) → IsWellFormed dim v → IsReady dim e v → IsPut dim (rule_of dim e) v
 element_put dim axes (edit.Move n by) fits v good ready =
     let s = shifted dim by v axes good ready.0 ready.1 in
-    record { turned = s.turned; good = s.good; row = s.row; fields = λ own. s.fields }
-element_put dim axes (edit.Copy n by) fits v good ready =
-    let s = shifted dim by v axes good ready.0 ready.1 in
-    record { turned = s.turned; good = s.good; row = s.row; fields = λ own p. absurd own }
-element_put dim axes (edit.Append new) fits v good ready = record {
-  turned = λ p. turns_none p (spell v);
-  good = good;
-  row = refl;
-  fields = λ own p. refl;
-}
-element_put dim axes (edit.Sym n change) fits v good ready = looked dim n change v fits good (is_shown dim v good ready)
+    record { turned = s.turned; good = s.good; row = s.row; fields = s.fields }
+element_put dim axes (edit.Copy n by) fits v good ready = shifted dim by v axes good ready.0 ready.1
+element_put dim axes (edit.Append new) fits v good ready = record { turned = λ p. turns_none p (spell v); good = good; row = refl; fields = λ p. refl }
+element_put dim axes (edit.Sym n change) fits v good ready = looked dim change v fits good (is_shown dim v good ready)
 element_put dim axes (edit.Delete n) fits v good ready =
     let marked = mark_put dim v good ready in
     let long = size-body v in
@@ -151,7 +139,7 @@ element_put dim axes (edit.Delete n) fits v good ready =
           marked.spelled;
       good = marked.good;
       row = marked.row;
-      fields = λ own p. refl;
+      fields = λ p. refl;
     }
 
 -- what holds of each of two lists joined
@@ -169,23 +157,24 @@ pub turns_as : (p : ℕ) (x x' y y' : List ℕ) (ps qs : List Put) → x ≡ x' 
 turns_as p x x' y y' ps qs e f g one =
     subst (λ (z : List ℕ). Turns p z qs y') e (subst (λ (z : List Put). Turns p x z y') f (subst (λ (z : List ℕ). Turns p x ps z) g one))
 
-module _ (dim : ℕ) (axes : IsDimension dim) (e : Edit) (fits : IsEdit e) where
+-- a row that puts into each element against which nothing stands what it should
+module _ (dim : ℕ) (r : Rule) (Ready : Element → Type 0) (put_right : (v : Element) → IsWellFormed dim v → Ready v → IsPut dim r v) where
   -- a head and all below it: a dead one keeps them
   head_turned : (h : Element) (n p : ℕ) (below changed : Forest Element) (vs : List Live) (deleted : Bool) → IsWellFormed dim h
-      → AllByRecursion (λ v. IsReady dim e v.element) (if deleted then [] else record { number = n; place = p; element = h } ∷ vs)
-      → (AllByRecursion (λ v. IsReady dim e v.element) vs → Turns (p + size_of h) (spelling (flat below)) (live_puts dim e vs) (spelling (flat changed)))
-      → Turns p (spell h ++ spelling (flat below)) (live_puts dim e (if deleted then [] else record { number = n; place = p; element = h } ∷ vs))
-      (spell (if deleted then h else change_of dim e h) ++ spelling (flat (if deleted then below else changed)))
+      → AllByRecursion (λ v. Ready v.element) (if deleted then [] else record { number = n; place = p; element = h } ∷ vs)
+      → (AllByRecursion (λ v. Ready v.element) vs → Turns (p + size_of h) (spelling (flat below)) (live_puts r vs) (spelling (flat changed)))
+      → Turns p (spell h ++ spelling (flat below)) (live_puts r (if deleted then [] else record { number = n; place = p; element = h } ∷ vs))
+      (spell (if deleted then h else r.made h) ++ spelling (flat (if deleted then below else changed)))
   head_turned h n p below changed vs true good ready more = turns_none p (spell h ++ spelling (flat below))
   head_turned h n p below changed vs false good ready more =
-      turns_then p (p + size_of h) (spell h) (spelling (flat below)) (spell (change_of dim e h)) (spelling (flat changed)) (puts_at dim e p h)
-      (live_puts dim e vs) refl
-      ((element_put dim axes e fits h good ready.0).turned p) (more ready.1)
+      turns_then p (p + size_of h) (spell h) (spelling (flat below)) (spell (r.made h)) (spelling (flat changed)) (r.puts p h)
+      (live_puts r vs) refl
+      ((put_right h good ready.0).turned p) (more ready.1)
 
   -- trees that begin at place p
   pub forest_turned : (f : Forest Element) (n p : ℕ) → AllByRecursion (IsWellFormed dim) (flat f)
-      → AllByRecursion (λ v. IsReady dim e v.element) (live_from n p f)
-      → Turns p (spelling (flat f)) (live_puts dim e (live_from n p f)) (spelling (flat (live_map (λ member. member.deleted) (change_of dim e) f)))
+      → AllByRecursion (λ v. Ready v.element) (live_from n p f)
+      → Turns p (spelling (flat f)) (live_puts r (live_from n p f)) (spelling (flat (live_map (λ member. member.deleted) r.made f)))
   forest_turned NoTree n p good ready = turns_none p []
   forest_turned (Tree knot h below behind) n p good ready =
       let q : ℕ = p + (size_of h + length (spelling (flat below))) in
@@ -193,19 +182,19 @@ module _ (dim : ℕ) (axes : IsDimension dim) (e : Edit) (fits : IsEdit e) where
       let vs : List Live = live_from (n + 1) (p + size_of h) below in
       let head : List Live = if h.deleted then [] else record { number = n; place = p; element = h } ∷ vs in
       let last : List Live = live_from (n + 1 + length (flat below)) q behind in
-      let parts = all_parts (λ (v : Live). IsReady dim e v.element) head last ready in
-      let above = head_turned h n p below (live_map (λ member. member.deleted) (change_of dim e) below) vs h.deleted good.0 parts.0
+      let parts = all_parts (λ (v : Live). Ready v.element) head last ready in
+      let above = head_turned h n p below (live_map (λ member. member.deleted) r.made below) vs h.deleted good.0 parts.0
       (forest_turned below (n + 1) (p + size_of h) both.0) in
       let rest = forest_turned behind (n + 1 + length (flat below)) q both.1 parts.1 in
       let joined = turns_then p q _ _ _ _ _ _ (omega (arith, length-append (spell h) (spelling (flat below)))) above rest in
-      turns_as p _ _ _ _ _ _ (spelled_tree h (flat below) (flat behind)) (sym (flat_map-append (λ (v : Live). puts_at dim e v.place v.element) head last))
+      turns_as p _ _ _ _ _ _ (spelled_tree h (flat below) (flat behind)) (sym (flat_map-append (λ (v : Live). r.puts v.place v.element) head last))
       (spelled_tree _ _ _) joined
 
   -- what is put into live elements is laid over their fields
-  pub fields_put : ChangesInPlace e → (vs : List Live) → AllByRecursion (λ v. IsWellFormed dim v.element) vs
-      → AllByRecursion (λ v. IsReady dim e v.element) vs → map field_of (live_puts dim e vs) ≡ live_fields dim e vs
-  fields_put own [] good ready = refl
-  fields_put own (v ∷ vs) good ready =
-      map-append field_of (puts_at dim e v.place v.element) (live_puts dim e vs)
-      ∙ ap (λ (fs : List Field). fs ++ map field_of (live_puts dim e vs)) ((element_put dim axes e fits v.element good.0 ready.0).fields own v.place)
-      ∙ ap (λ (fs : List Field). fields_at dim e v.place v.element ++ fs) (fields_put own vs good.1 ready.1)
+  pub fields_put : (vs : List Live) → AllByRecursion (λ v. IsWellFormed dim v.element) vs
+      → AllByRecursion (λ v. Ready v.element) vs → map field_of (live_puts r vs) ≡ live_fields r vs
+  fields_put [] good ready = refl
+  fields_put (v ∷ vs) good ready =
+      map-append field_of (r.puts v.place v.element) (live_puts r vs)
+      ∙ ap (λ (fs : List Field). fs ++ map field_of (live_puts r vs)) ((put_right v.element good.0 ready.0).fields v.place)
+      ∙ ap (λ (fs : List Field). r.fields v.place v.element ++ fs) (fields_put vs good.1 ready.1)

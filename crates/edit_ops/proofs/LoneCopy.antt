@@ -20,15 +20,17 @@ use Rattle.elem_index.specs.Design.{elements, IsWhole}
 use Rattle.elem_index.proofs.Places.{axes_of}
 use Rattle.patch_bytes.specs.Puts.{write}
 use Rattle.edit_ops.specs.declared.causes.cause.Cause.{Cause}
-use Rattle.edit_ops.specs.declared.asking.element_view.ElementView.{ElementView}
-use Rattle.edit_ops.specs.declared.asking.test.Test.TheVariants as tests
+use Rattle.edit_ops.specs.declared.elements.element_view.ElementView.{ElementView}
+use Rattle.edit_ops.specs.declared.causes.test.Test.TheVariants as tests
 use Rattle.edit_ops.specs.Trees.{Live, tree_at, found_at, live_tree}
 use Rattle.edit_ops.specs.Causes.{unmovable, off_plane, first_cause}
 use Rattle.edit_ops.specs.Asking.{cause_in}
-use Rattle.edit_ops.specs.Written.{sum_put, live_puts}
+use Rattle.edit_ops.specs.Rules.{displacing, sum_put}
+use Rattle.edit_ops.specs.Written.{live_puts, IsReady}
 use Rattle.edit_ops.specs.Copying.{tree_copy, copy_cause}
 use Rattle.edit_ops.specs.ElementViews.{IsElementView}
 use Rattle.edit_ops.proofs.AcceptedEdit.{copy_ready}
+use Rattle.edit_ops.proofs.KeptRules.{edit_keeps}
 use Rattle.edit_ops.proofs.CopiedPart.{bytes_copied}
 use Rattle.edit_ops.proofs.ListedLive.{cause_alone}
 use Rattle.edit_ops.proofs.ElementMoves.{moves_found, some_spots}
@@ -72,11 +74,11 @@ module _ (d : Design) (whole : IsWhole d) (n : ℕ) (f : ElementView) (found : I
         ∙ plane_cause d.dim (tests.StaysOnPlane by) by n its found.element stays refl found.there (sym (stays_found d whole n f found by spots))
 
     -- what it puts into the bytes of the element
-    puts_alone : live_puts d.dim (edit.Copy n by) (live_tree (elements d) n) ≡ map (sum_put by f.place f.bytes.now) (spots_of d.dim f.kind f.bytes.now)
+    puts_alone : live_puts (displacing d.dim by) (live_tree (elements d) n) ≡ map (sum_put by f.place f.bytes.now) (spots_of d.dim f.kind f.bytes.now)
     puts_alone =
         let e : Element = found.element in
-        ap (live_puts d.dim (edit.Copy n by)) one
-        ∙ ap (λ (o : Option Element). live_puts d.dim (edit.Copy n by)
+        ap (live_puts (displacing d.dim by)) one
+        ∙ ap (λ (o : Option Element). live_puts (displacing d.dim by)
         (option_to_list (option_map (λ (x : Element). record { number = n; place = offset_of (elements d) n; element = x }) o))) found.there
         ∙ append-nil (map (sum_put by (offset_of (elements d) n) (spell e)) (spots_of d.dim e.kind (spell e)))
         ∙ ap (λ (k : ℕ). map (sum_put by (offset_of (elements d) n) (spell e)) (spots_of d.dim k (spell e))) (sym found.kind)
@@ -91,6 +93,7 @@ module _ (d : Design) (whole : IsWhole d) (n : ℕ) (f : ElementView) (found : I
         → slice_set laid 0 (slice_index laid 0 % 128) ≡ spelling (flat (tree_copy d.dim (elements d) by n))
     alone_copied fits part all laid give =
         let none : copy_cause d.dim es by n ≡ None = copy_leaves_plane ∙ ap (off_plane n) all in
-        bytes_copied d.dim (axes_of d whole) es (edit.Copy n by) n fits whole.is_open.opens.each (copy_ready d.dim by n (live_tree es n) none)
+        bytes_copied d.dim es (displacing d.dim by) (IsReady d.dim (edit.Copy n by)) (edit_keeps d.dim (axes_of d whole) (edit.Copy n by) fits) n
+        whole.is_open.opens.each (copy_ready d.dim by n (live_tree es n) none)
         f.place f.bytes.now
         (map (sum_put by f.place f.bytes.now) (spots_of d.dim f.kind f.bytes.now)) found.place (sym part) (sym puts_alone) laid give

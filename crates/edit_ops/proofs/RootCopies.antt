@@ -16,18 +16,21 @@ use Rattle.nest_tree.proofs.NestingSteps.{nest_nil}
 use Rattle.nest_tree.proofs.TreesApart.{nest_apart, forest_apart}
 use Rattle.edit_ops.specs.Trees.{tree_at, live_map}
 use Rattle.edit_ops.specs.Applying.{copied}
+use Rattle.edit_ops.specs.Rules.{displacing}
+use Rattle.edit_ops.specs.Written.{IsReady}
 use Rattle.edit_ops.specs.Fenced.{edits_at, copies, all_appended}
 use Rattle.edit_ops.proofs.PartPlace.{flat-joined}
 use Rattle.edit_ops.proofs.EachLive.{each_both}
 use Rattle.edit_ops.proofs.AcceptedEdit.{IsAccepted}
 use Rattle.edit_ops.proofs.FirstElement.{some_element}
 use Rattle.edit_ops.proofs.TreesBehind.{first_spelled, joined_left, free_both}
+use Rattle.edit_ops.proofs.KeptRules.{Keeps, edit_keeps}
 use Rattle.edit_ops.proofs.CopiedPart.{freed_first, copied_good, copied_long, copied_nests}
 
 module _ (dim : ℕ) (es : List Element) (by : Displacement) where
   -- the copy of the tree of root n, and those of some roots
   abbrev copy : ℕ → Forest Element
-  copy n = copied dim es (edit.Copy n by) n
+  copy n = copied (displacing dim by) es n
 
   abbrev all : List ℕ → Forest Element
   all ns = copies dim es (fence.Copy by) ns
@@ -42,7 +45,7 @@ module _ (dim : ℕ) (es : List Element) (by : Displacement) where
 
   -- their bytes are those of each
   pub copies_spelled : (ns : List ℕ)
-      → spelling (flat (copies dim es (fence.Copy by) ns)) ≡ flat_map (λ n. spelling (flat (copied dim es (edit.Copy n by) n))) ns
+      → spelling (flat (copies dim es (fence.Copy by) ns)) ≡ flat_map (λ n. spelling (flat (copied (displacing dim by) es n))) ns
   copies_spelled [] = refl
   copies_spelled (n ∷ ns) = first_spelled (copy n) (all ns) ∙ ap (λ (b : List ℕ). spelling (flat (copy n)) ++ b) (copies_spelled ns)
 
@@ -51,12 +54,15 @@ module _ (dim : ℕ) (es : List Element) (by : Displacement) where
     abbrev CanBeCopied : ℕ → Type 0
     CanBeCopied n = IsAccepted dim es (edit.Copy n by) n
 
+    keeps : (n : ℕ) → Keeps dim (displacing dim by) (IsReady dim (edit.Copy n by))
+    keeps n = edit_keeps dim axes (edit.Copy n by) fits
+
     pub copies_good : (ns : List ℕ) → AllByRecursion (λ n. IsAccepted dim es (edit.Copy n by) n) ns
         → AllByRecursion (IsWellFormed dim) (flat (copies dim es (fence.Copy by) ns))
     copies_good [] able = tt
     copies_good (n ∷ ns) able =
         subst (AllByRecursion (IsWellFormed dim)) (sym (flat-joined (copy n) (all ns)))
-        (each_both (IsWellFormed dim) (flat (copy n)) (flat (all ns)) (copied_good dim axes es (edit.Copy n by) n fits each able.0.able)
+        (each_both (IsWellFormed dim) (flat (copy n)) (flat (all ns)) (copied_good dim es (displacing dim by) (IsReady dim (edit.Copy n by)) (keeps n) n each able.0.able)
         (copies_good ns able.1))
 
     -- they are as long as the copied trees
@@ -64,7 +70,7 @@ module _ (dim : ℕ) (es : List Element) (by : Displacement) where
         → length (spelling (flat (copies dim es (fence.Copy by) ns))) ≡ all_appended es (edits_at (fence.Copy by) ns)
     copies_long [] able = refl
     copies_long (n ∷ ns) able =
-        let here = copied_long dim axes es (edit.Copy n by) n fits each able.0.able in
+        let here = copied_long dim es (displacing dim by) (IsReady dim (edit.Copy n by)) (keeps n) n each able.0.able in
         let more = copies_long ns able.1 in
         let long = ap (length {A = ℕ}) (first_spelled (copy n) (all ns)) in
         omega (arith, length-append (spelling (flat (copy n))) (spelling (flat (all ns))))
@@ -74,7 +80,7 @@ module _ (dim : ℕ) (es : List Element) (by : Displacement) where
     copy_alone n able =
         joined_left (forest row_of es) (nest row_of Whole (flat (copy n))) (copy n)
         (sym (forest_apart row_of es (flat (copy n)) (some_element es first) (copy_free n))
-        ∙ copied_nests dim axes es (edit.Copy n by) n fits each able.able able.known able.later able.head able.there able.head_able.0)
+        ∙ copied_nests dim es (displacing dim by) (IsReady dim (edit.Copy n by)) (keeps n) n each able.able able.known able.later able.head able.there able.head_able.0)
 
     copies_alone : (ns : List ℕ) → AllByRecursion CanBeCopied ns → nest row_of Whole (flat (all ns)) ≡ all ns
     copies_alone [] able = nest_nil row_of Whole

@@ -8,7 +8,7 @@ use Rattle.dgn_drawing.specs.Numbering.{parent_of, first_broken_of, root_of}
 use Rattle.nest_tree.proofs.HeaderChains.{ends_climb, ends_first, root_known}
 use Rattle.edit_ops.specs.declared.causes.cause.Cause.{Cause}
 use Rattle.edit_ops.specs.declared.causes.cause.Cause.TheVariants as causes
-use Rattle.edit_ops.specs.declared.asking.test.Test.TheVariants as tests
+use Rattle.edit_ops.specs.declared.causes.test.Test.TheVariants as tests
 use Rattle.edit_ops.specs.Trees.{Live, above_tree, found_at}
 use Rattle.edit_ops.specs.Causes.{broken, broken_in, first_cause, part_cause}
 use Rattle.edit_ops.specs.Asking.{cause_in}

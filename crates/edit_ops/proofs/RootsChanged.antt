@@ -7,11 +7,10 @@ use Rattle.std.specs.List.{AllByRecursion, flat_map}
 use Rattle.std.proofs.lemmas.Grind.{flat_map-append}
 use Rattle.std.proofs.lemmas.List.{append-nil, take_at}
 use Rattle.std.proofs.lemmas.Bool.{cond-false, le-ltb}
-use Rattle.dgn_drawing.specs.declared.edit.Edit.{Edit}
 use Rattle.dgn_drawing.specs.declared.row.Row.{Row}
 use Rattle.dgn_drawing.specs.Element.{Element}
 use Rattle.dgn_drawing.specs.Spelling.{spell, spelling, size_of}
-use Rattle.dgn_drawing.specs.WellFormed.{IsDimension, IsWellFormed}
+use Rattle.dgn_drawing.specs.WellFormed.{IsWellFormed}
 use Rattle.dgn_drawing.specs.Rows.{row_of}
 use Rattle.dgn_drawing.specs.Nesting.{Forest, NoTree, Tree, flat, forest, joined, forest_map}
 use Rattle.dgn_drawing.specs.Numbering.{end_of}
@@ -19,14 +18,14 @@ use Rattle.dgn_drawing.specs.Shown.{roots}
 use Rattle.nest_tree.proofs.NestingSteps.{flat-forest}
 use Rattle.elem_index.specs.Offsets.{offset_of}
 use Rattle.edit_ops.specs.Trees.{count_in, tree_at, live_map, Live, live_from, live_tree, above_from, above_tree}
-use Rattle.edit_ops.specs.Applying.{change_of, IsEdit}
 use Rattle.edit_ops.specs.Fenced.{chosen_map}
-use Rattle.edit_ops.specs.Written.{puts_at, live_puts, IsReady}
+use Rattle.edit_ops.specs.Rules.{Rule}
+use Rattle.edit_ops.specs.Written.{live_puts}
 use Rattle.edit_ops.proofs.PartPlace.{flat-joined}
 use Rattle.edit_ops.proofs.EachLive.{each_both, each_first, each_last}
 use Rattle.edit_ops.proofs.RowsKept.{map-joined, live_looks, live_map_each}
 use Rattle.edit_ops.proofs.TextTurns.{Turns, turns_none, turns_then}
-use Rattle.edit_ops.proofs.LivePuts.{turns_as, forest_turned}
+use Rattle.edit_ops.proofs.LivePuts.{IsPut, turns_as, forest_turned}
 use Rattle.edit_ops.proofs.TreesBehind.{first_spelled}
 
 -- the live elements of the chosen trees, of trees whose first element has number n and begins at byte p
@@ -87,26 +86,26 @@ module _ (change : Element → Element) where
         (each_both P (flat (one_changed (chosen n) tree)) (flat others) (one_each P (chosen n) n p tree inner (each_first Q here there those))
         (chosen_each P (end_of n below) q behind (each_last P (flat below) (flat behind) each.1) (each_last Q here there those)))
 
-module _ (dim : ℕ) (axes : IsDimension dim) (e : Edit) (fits : IsEdit e) where
-  -- what an edit puts into a chosen tree
+module _ (dim : ℕ) (r : Rule) (Ready : Element → Type 0) (put_right : (v : Element) → IsWellFormed dim v → Ready v → IsPut dim r v) where
+  -- what a row puts into a chosen tree
   one_turned : (b : Bool) (n p : ℕ) (tree : Forest Element) → AllByRecursion (IsWellFormed dim) (flat tree)
-      → AllByRecursion (λ (v : Live). IsReady dim e v.element) (cond b (live_from n p tree) [])
-      → Turns p (spelling (flat tree)) (live_puts dim e (cond b (live_from n p tree) [])) (spelling (flat (one_changed (change_of dim e) b tree)))
-  one_turned true n p tree good ready = forest_turned dim axes e fits tree n p good ready
+      → AllByRecursion (λ (v : Live). Ready v.element) (cond b (live_from n p tree) [])
+      → Turns p (spelling (flat tree)) (live_puts r (cond b (live_from n p tree) [])) (spelling (flat (one_changed r.made b tree)))
+  one_turned true n p tree good ready = forest_turned dim r Ready put_right tree n p good ready
   one_turned false n p tree good ready = turns_none p (spelling (flat tree))
 
   -- what it puts into the live elements of the chosen trees turns the bytes of all into those of the changed ones
   pub chosen_turned : (chosen : ℕ → Bool) (n p : ℕ) (f : Forest Element) → AllByRecursion (IsWellFormed dim) (flat f)
-      → AllByRecursion (λ (v : Live). IsReady dim e v.element) (chosen_live chosen n p f)
-      → Turns p (spelling (flat f)) (live_puts dim e (chosen_live chosen n p f)) (spelling (flat (chosen_map (change_of dim e) chosen n f)))
+      → AllByRecursion (λ (v : Live). Ready v.element) (chosen_live chosen n p f)
+      → Turns p (spelling (flat f)) (live_puts r (chosen_live chosen n p f)) (spelling (flat (chosen_map r.made chosen n f)))
   chosen_turned chosen n p NoTree good ready = turns_none p []
   chosen_turned chosen n p (Tree knot h below behind) good ready =
-      let Q : Live → Type 0 = λ v. IsReady dim e v.element in
+      let Q : Live → Type 0 = λ v. Ready v.element in
       let tree : Forest Element = Tree knot h below NoTree in
       let q : ℕ = p + (size_of h + length (spelling (flat below))) in
       let here : List Live = cond (chosen n) (live_from n p tree) [] in
       let there : List Live = chosen_live chosen (end_of n below) q behind in
-      let others : Forest Element = chosen_map (change_of dim e) chosen (end_of n below) behind in
+      let others : Forest Element = chosen_map r.made chosen (end_of n below) behind in
       let inner : AllByRecursion (IsWellFormed dim) (flat tree) =
       (good.0, each_both (IsWellFormed dim) (flat below) [] (each_first (IsWellFormed dim) (flat below) (flat behind) good.1) tt) in
       let long : length (spelling (flat tree)) ≡ size_of h + length (spelling (flat below)) =
@@ -115,8 +114,8 @@ module _ (dim : ℕ) (axes : IsDimension dim) (e : Edit) (fits : IsEdit e) where
       let rest = chosen_turned chosen (end_of n below) q behind (each_last (IsWellFormed dim) (flat below) (flat behind) good.1)
       (each_last Q here there ready) in
       let both = turns_then p q _ _ _ _ _ _ (omega (arith, long)) first rest in
-      turns_as p _ _ _ _ _ _ (sym (first_spelled tree behind)) (sym (flat_map-append (λ (v : Live). puts_at dim e v.place v.element) here there))
-      (sym (first_spelled (one_changed (change_of dim e) (chosen n) tree) others)) both
+      turns_as p _ _ _ _ _ _ (sym (first_spelled tree behind)) (sym (flat_map-append (λ (v : Live). r.puts v.place v.element) here there))
+      (sym (first_spelled (one_changed r.made (chosen n) tree) others)) both
 
 -- an element behind some trees: its tree is that of the trees behind them
 tree_past : {A : Type 0} (g f : Forest A) (n k : ℕ) → n ≡ count_in g + k → tree_at n (joined g f) ≡ tree_at k f

@@ -9,7 +9,7 @@ use Rattle.dgn_drawing.specs.declared.edit.Edit.{Edit}
 use Rattle.dgn_drawing.specs.declared.edit.Edit.TheVariants as edit
 use Rattle.dgn_drawing.specs.declared.fence_edit.FenceEdit.{FenceEdit}
 use Rattle.dgn_drawing.specs.declared.fence_edit.FenceEdit.TheVariants as fence
-use Rattle.dgn_drawing.specs.Values.{Displacement, LookChange, IsShift}
+use Rattle.dgn_drawing.specs.Values.{Displacement, LookChange, IsShift, IsLook}
 use Rattle.dgn_drawing.specs.Element.{Element}
 use Rattle.dgn_drawing.specs.Spelling.{spell, spelling}
 use Rattle.dgn_drawing.specs.WellFormed.{IsDimension, IsWellFormed}
@@ -23,15 +23,17 @@ use Rattle.nest_tree.proofs.ByRows.{forest_rows, flat-map}
 use Rattle.nest_tree.proofs.SameTrees.{known}
 use Rattle.edit_ops.specs.Trees.{Live, live_map, live_tree, above_tree}
 use Rattle.edit_ops.specs.Causes.{target_of, cause_of, bytes_appended}
-use Rattle.edit_ops.specs.Applying.{change_of, copied, IsEdit, ChangesInPlace}
-use Rattle.edit_ops.specs.Fields.{above_fields_at, fields_at, live_fields, part_fields, edited_fields}
-use Rattle.edit_ops.specs.Written.{puts_at, above_puts, live_puts, part_puts, IsReady}
+use Rattle.edit_ops.specs.Applying.{copied, IsEdit}
+use Rattle.edit_ops.specs.EditedFields.{above_fields, live_fields, part_fields, edited_fields}
+use Rattle.edit_ops.specs.Rules.{Rule, rule_of, moving, displacing, recolouring, deleting}
+use Rattle.edit_ops.specs.Written.{above_puts, live_puts, part_puts, IsReady}
 use Rattle.edit_ops.specs.Fenced.{edit_at, edits_at, cause_of_all, chosen_map, roots_changed, copies, fenced_forest, fenced_fields, all_appended, AreRoots}
 use Rattle.edit_ops.specs.Fenced.{IsFenceEdit}
 use Rattle.edit_ops.proofs.PartPlace.{flat-joined}
 use Rattle.edit_ops.proofs.EachLive.{each_both, live_tree_each}
 use Rattle.edit_ops.proofs.TextTurns.{Turns, turns_none}
-use Rattle.edit_ops.proofs.LivePuts.{field_of, IsPut, element_put, turns_as, fields_put}
+use Rattle.edit_ops.proofs.LivePuts.{field_of, IsPut, turns_as, fields_put}
+use Rattle.edit_ops.proofs.KeptRules.{Keeps, edit_keeps}
 use Rattle.elem_index.proofs.Places.{opened_axes}
 use Rattle.edit_ops.proofs.EditedBytes.{all_so, all_both}
 use Rattle.edit_ops.proofs.AcceptedEdit.{IsAccepted, accepted, none_both}
@@ -42,15 +44,15 @@ use Rattle.edit_ops.proofs.RootCopies.{copies_free, copies_spelled, copies_good,
 
 -- what an edit puts into the drawing, and what it appends
 abbrev pub own_puts : ℕ → List Element → Edit → List Put
-own_puts dim es (edit.Move n by) = part_puts dim es (edit.Move n by) n
+own_puts dim es (edit.Move n by) = part_puts (rule_of dim (edit.Move n by)) es n
 own_puts dim es (edit.Copy n by) = []
-own_puts dim es (edit.Sym n change) = part_puts dim es (edit.Sym n change) n
-own_puts dim es (edit.Delete n) = part_puts dim es (edit.Delete n) n
+own_puts dim es (edit.Sym n change) = part_puts (rule_of dim (edit.Sym n change)) es n
+own_puts dim es (edit.Delete n) = part_puts (rule_of dim (edit.Delete n)) es n
 own_puts dim es (edit.Append new) = []
 
 abbrev pub own_bytes : ℕ → List Element → Edit → List ℕ
 own_bytes dim es (edit.Move n by) = []
-own_bytes dim es (edit.Copy n by) = spelling (flat (copied dim es (edit.Copy n by) n))
+own_bytes dim es (edit.Copy n by) = spelling (flat (copied (displacing dim by) es n))
 own_bytes dim es (edit.Sym n change) = []
 own_bytes dim es (edit.Delete n) = []
 own_bytes dim es (edit.Append new) = spell (element_made new)
@@ -125,61 +127,57 @@ none_appended : (es : List Element) (e : FenceEdit) (ns : List ℕ) → ((n : �
 none_appended es e [] none = refl
 none_appended es e (n ∷ ns) none = let here = none n in let more = none_appended es e ns none in omega arith
 
--- an edit of several roots changes them in their places, as this edit does that of one: a move, a change of the look
--- or a deletion
-pub record AreInPlace (dim : ℕ) (es : List Element) (x : Edit) (e : FenceEdit) : Type 0 where
-  pub fits : IsFenceEdit e → IsEdit x
-  pub own : ChangesInPlace x
-  pub ready : (n : ℕ) → IsAccepted dim es (edit_at e n) n → AllByRecursion (λ v. IsReady dim x v.element) (live_tree es n)
-  pub puts : (n : ℕ) → above_tree es n ≡ [] → own_puts dim es (edit_at e n) ≡ live_puts dim x (live_tree es n)
-  pub fields : (n : ℕ) → above_tree es n ≡ [] → edited_fields dim es (edit_at e n) ≡ live_fields dim x (live_tree es n)
+-- an edit of several roots changes them in their places by a row: a move, a change of the look or a deletion
+pub record AreInPlace (dim : ℕ) (es : List Element) (r : Rule) (Ready : Element → Type 0) (e : FenceEdit) : Type 0 where
+  pub keeps : Keeps dim r Ready
+  pub ready : (n : ℕ) → IsAccepted dim es (edit_at e n) n → AllByRecursion (λ v. Ready v.element) (live_tree es n)
+  pub puts : (n : ℕ) → own_puts dim es (edit_at e n) ≡ part_puts r es n
+  pub fields : (n : ℕ) → edited_fields dim es (edit_at e n) ≡ part_fields r es n
   pub bytes : (n : ℕ) → own_bytes dim es (edit_at e n) ≡ []
   pub appended : (n : ℕ) → bytes_appended es (edit_at e n) ≡ 0
-  pub trees : (ns : List ℕ) → fenced_forest dim es e ns ≡ roots_changed (change_of dim x) es ns
+  pub trees : (ns : List ℕ) → fenced_forest dim es e ns ≡ roots_changed r.made es ns
 
 -- without headers above it, a part has the puts and the fields of its live elements alone
-module _ (dim : ℕ) (es : List Element) (x : Edit) (n : ℕ) (none : above_tree es n ≡ []) where
-  puts_alone : part_puts dim es x n ≡ live_puts dim x (live_tree es n)
-  puts_alone = ap (λ (vs : List Live). above_puts dim x (slice_get es n) vs ++ live_puts dim x (live_tree es n)) none
+module _ (es : List Element) (r : Rule) (n : ℕ) (none : above_tree es n ≡ []) where
+  puts_alone : part_puts r es n ≡ live_puts r (live_tree es n)
+  puts_alone = ap (λ (vs : List Live). above_puts r (slice_get es n) vs ++ live_puts r (live_tree es n)) none
 
-  fields_alone : part_fields dim es x n ≡ live_fields dim x (live_tree es n)
-  fields_alone = ap (λ (vs : List Live). flat_map (λ v. above_fields_at dim x v.place) vs ++ live_fields dim x (live_tree es n)) none
+  fields_alone : part_fields r es n ≡ live_fields r (live_tree es n)
+  fields_alone = ap (λ (vs : List Live). above_fields r vs ++ live_fields r (live_tree es n)) none
 
-moves_in_place : (dim : ℕ) (es : List Element) (by : Displacement) → AreInPlace dim es (edit.Move 0 by) (fence.Move by)
-moves_in_place dim es by = record {
-  fits = λ fits. fits;
-  own = tt;
-  ready = λ n able. able.able;
-  puts = λ n none. puts_alone dim es (edit.Move n by) n none;
-  fields = λ n none. fields_alone dim es (edit.Move n by) n none;
-  bytes = λ n. refl;
-  appended = λ n. refl;
-  trees = λ ns. refl;
-}
+module _ (dim : ℕ) (axes : IsDimension dim) (es : List Element) where
+  moves_in_place : (by : Displacement) → IsShift by → AreInPlace dim es (moving dim by) (IsReady dim (edit.Move 0 by)) (fence.Move by)
+  moves_in_place by fits = record {
+    keeps = edit_keeps dim axes (edit.Move 0 by) fits;
+    ready = λ n able. able.able;
+    puts = λ n. refl;
+    fields = λ n. refl;
+    bytes = λ n. refl;
+    appended = λ n. refl;
+    trees = λ ns. refl;
+  }
 
-looks_in_place : (dim : ℕ) (es : List Element) (change : LookChange) → AreInPlace dim es (edit.Sym 0 change) (fence.Sym change)
-looks_in_place dim es change = record {
-  fits = λ fits. fits;
-  own = tt;
-  ready = λ n able. able.able;
-  puts = λ n none. puts_alone dim es (edit.Sym n change) n none;
-  fields = λ n none. fields_alone dim es (edit.Sym n change) n none;
-  bytes = λ n. refl;
-  appended = λ n. refl;
-  trees = λ ns. refl;
-}
+  looks_in_place : (change : LookChange) → IsLook change → AreInPlace dim es (recolouring change) (IsReady dim (edit.Sym 0 change)) (fence.Sym change)
+  looks_in_place change fits = record {
+    keeps = edit_keeps dim axes (edit.Sym 0 change) fits;
+    ready = λ n able. able.able;
+    puts = λ n. refl;
+    fields = λ n. refl;
+    bytes = λ n. refl;
+    appended = λ n. refl;
+    trees = λ ns. refl;
+  }
 
-marks_in_place : (dim : ℕ) (es : List Element) → AreInPlace dim es (edit.Delete 0) fence.Delete
-marks_in_place dim es = record {
-  fits = λ fits. fits;
-  own = tt;
-  ready = λ n able. able.able;
-  puts = λ n none. puts_alone dim es (edit.Delete n) n none;
-  fields = λ n none. fields_alone dim es (edit.Delete n) n none;
-  bytes = λ n. refl;
-  appended = λ n. refl;
-  trees = λ ns. refl;
-}
+  marks_in_place : AreInPlace dim es deleting (IsReady dim (edit.Delete 0)) fence.Delete
+  marks_in_place = record {
+    keeps = edit_keeps dim axes (edit.Delete 0) tt;
+    ready = λ n able. able.able;
+    puts = λ n. refl;
+    fields = λ n. refl;
+    bytes = λ n. refl;
+    appended = λ n. refl;
+    trees = λ ns. refl;
+  }
 
 -- trees of which the first isn't chosen begin as they did
 root_stays : (change : Element → Element) (chosen : ℕ → Bool) (x : Element) (xs : List Element) → chosen 0 ≡ false
@@ -201,7 +199,7 @@ begins_so dim (x ∷ xs) change chosen t axes each first not =
 
 -- roots changed in their places
 module _ (dim : ℕ) (axes : IsDimension dim) (es : List Element) (each : AllByRecursion (IsWellFormed dim) es) (first : BeginsWithTcb es)
-    (x : Edit) (e : FenceEdit) (here : AreInPlace dim es x e) (fits : IsFenceEdit e) (ns : List ℕ) (some : AreRoots es ns)
+    (r : Rule) (Ready : Element → Type 0) (e : FenceEdit) (here : AreInPlace dim es r Ready e) (ns : List ℕ) (some : AreRoots es ns)
     (able : AllByRecursion (λ n. IsAccepted dim es (edit_at e n) n) ns) where
   -- the live elements of their trees
   abbrev vs : List Live
@@ -214,43 +212,45 @@ module _ (dim : ℕ) (axes : IsDimension dim) (es : List Element) (each : AllByR
   each_live : (P : Live → Type 0) → AllByRecursion (λ n. AllByRecursion P (live_tree es n)) ns → AllByRecursion P vs
   each_live P those = subst (AllByRecursion P) live_are (each_part P (live_tree es) ns those)
 
-  ready : AllByRecursion (λ v. IsReady dim x v.element) vs
-  ready = each_live (λ v. IsReady dim x v.element)
-      (all_so (λ n. IsAccepted dim es (edit_at e n) n) (λ n. AllByRecursion (λ v. IsReady dim x v.element) (live_tree es n)) here.ready ns able)
+  ready : AllByRecursion (λ v. Ready v.element) vs
+  ready = each_live (λ v. Ready v.element)
+      (all_so (λ n. IsAccepted dim es (edit_at e n) n) (λ n. AllByRecursion (λ v. Ready v.element) (live_tree es n)) here.ready ns able)
 
   good_live : AllByRecursion (λ v. IsWellFormed dim v.element) vs
   good_live = each_live (λ v. IsWellFormed dim v.element)
       (all_so (λ n. IsAccepted dim es (edit_at e n) n) (λ n. AllByRecursion (λ v. IsWellFormed dim v.element) (live_tree es n))
       (λ n is. live_tree_each (IsWellFormed dim) es n each) ns able)
 
-  is_put : AllByRecursion (λ v. IsPut dim x v.element) vs
-  is_put = all_both (λ v. IsWellFormed dim v.element) (λ v. IsReady dim x v.element) (λ v. IsPut dim x v.element)
-      (λ v good able. element_put dim axes x (here.fits fits) v.element good able) vs good_live ready
+  is_put : AllByRecursion (λ v. IsPut dim r v.element) vs
+  is_put = all_both (λ v. IsWellFormed dim v.element) (λ v. Ready v.element) (λ v. IsPut dim r v.element)
+      (λ v good able. here.keeps.live v.element good able) vs good_live ready
 
   -- no header is above them
   alone : AllByRecursion (λ n. above_tree es n ≡ []) ns
   alone = subst (AllByRecursion (λ n. above_tree es n ≡ [])) (sym some.1)
       (each_chosen (λ n. above_tree es n ≡ []) some.0 (roots 0 (forest row_of es)) (roots_above es))
 
-  puts_are : all_puts dim es (edits_at e ns) ≡ live_puts dim x vs
+  puts_are : all_puts dim es (edits_at e ns) ≡ live_puts r vs
   puts_are =
-      parts_listed e (own_puts dim es) (live_tree es) (λ v. puts_at dim x v.place v.element) ns
-      (all_so (λ n. above_tree es n ≡ []) (λ n. own_puts dim es (edit_at e n) ≡ live_puts dim x (live_tree es n)) here.puts ns alone)
-      ∙ ap (live_puts dim x) live_are
+      parts_listed e (own_puts dim es) (live_tree es) (λ v. r.puts v.place v.element) ns
+      (all_so (λ n. above_tree es n ≡ []) (λ n. own_puts dim es (edit_at e n) ≡ live_puts r (live_tree es n))
+      (λ n none. here.puts n ∙ puts_alone es r n none) ns alone)
+      ∙ ap (live_puts r) live_are
 
-  fields_are : fenced_fields dim es e ns ≡ live_fields dim x vs
+  fields_are : fenced_fields dim es e ns ≡ live_fields r vs
   fields_are =
-      parts_listed e (edited_fields dim es) (live_tree es) (λ v. fields_at dim x v.place v.element) ns
-      (all_so (λ n. above_tree es n ≡ []) (λ n. edited_fields dim es (edit_at e n) ≡ live_fields dim x (live_tree es n)) here.fields ns alone)
-      ∙ ap (live_fields dim x) live_are
+      parts_listed e (edited_fields dim es) (live_tree es) (λ v. r.fields v.place v.element) ns
+      (all_so (λ n. above_tree es n ≡ []) (λ n. edited_fields dim es (edit_at e n) ≡ live_fields r (live_tree es n))
+      (λ n none. here.fields n ∙ fields_alone es r n none) ns alone)
+      ∙ ap (live_fields r) live_are
 
   -- the trees that it leaves, which have the rows of those that there were
   abbrev changed : Forest Element
-  changed = roots_changed (change_of dim x) es ns
+  changed = roots_changed r.made es ns
 
   looks : forest_map row_of changed ≡ forest_map row_of (forest row_of es)
-  looks = chosen_looks (change_of dim x) (is_one_of ns) 0 0 (forest row_of es)
-      (all_so (λ v. IsPut dim x v.element) (λ v. row_of (change_of dim x v.element) ≡ row_of v.element) (λ v is. is.row) vs is_put)
+  looks = chosen_looks r.made (is_one_of ns) 0 0 (forest row_of es)
+      (all_so (λ v. IsPut dim r v.element) (λ v. row_of (r.made v.element) ≡ row_of v.element) (λ v is. is.row) vs is_put)
 
   rows_kept : map row_of (flat changed) ≡ map row_of es
   rows_kept = sym (flat-map row_of changed) ∙ ap flat looks ∙ flat-map row_of (forest row_of es) ∙ ap (map row_of) (flat-forest row_of es)
@@ -270,14 +270,14 @@ module _ (dim : ℕ) (axes : IsDimension dim) (es : List Element) (each : AllByR
     more = [];
     listed = ap flat (here.trees ns) ∙ sym (append-nil (flat changed));
     turned = turns_as 0 _ _ _ _ _ _ (ap spelling (flat-forest row_of es)) (sym puts_are) refl
-        (chosen_turned dim axes x (here.fits fits) (is_one_of ns) 0 0 (forest row_of es) good_trees ready);
-    fields = ap (map field_of) puts_are ∙ fields_put dim axes x (here.fits fits) here.own vs good_live ready ∙ sym fields_are;
+        (chosen_turned dim r Ready here.keeps.live (is_one_of ns) 0 0 (forest row_of es) good_trees ready);
+    fields = ap (map field_of) puts_are ∙ fields_put dim r Ready here.keeps.live vs good_live ready ∙ sym fields_are;
     rows = rows_kept;
     nested = ap (forest row_of) (append-nil (flat changed)) ∙ nested_so ∙ sym (here.trees ns);
-    good = chosen_each (change_of dim x) (is_one_of ns) (IsWellFormed dim) 0 0 (forest row_of es) good_trees
-        (all_so (λ v. IsPut dim x v.element) (λ v. IsWellFormed dim (change_of dim x v.element)) (λ v is. is.good) vs is_put);
+    good = chosen_each r.made (is_one_of ns) (IsWellFormed dim) 0 0 (forest row_of es) good_trees
+        (all_so (λ v. IsPut dim r v.element) (λ v. IsWellFormed dim (r.made v.element)) (λ v is. is.good) vs is_put);
     good_more = tt;
-    begins = λ t. begins_so dim es (change_of dim x) (is_one_of ns) t axes each first not_first;
+    begins = λ t. begins_so dim es r.made (is_one_of ns) t axes each first not_first;
     free = tt;
     long = sym (none_appended es e ns here.appended);
     bytes = sym (none_listed e (own_bytes dim es) ns here.bytes);
@@ -285,9 +285,9 @@ module _ (dim : ℕ) (axes : IsDimension dim) (es : List Element) (each : AllByR
 
 -- the bytes of copies are those of each
 copied_bytes : (dim : ℕ) (es : List Element) (by : Displacement) (ns : List ℕ)
-    → flat_map (λ n. spelling (flat (copied dim es (edit.Copy n by) n))) ns ≡ all_bytes dim es (edits_at (fence.Copy by) ns)
+    → flat_map (λ n. spelling (flat (copied (displacing dim by) es n))) ns ≡ all_bytes dim es (edits_at (fence.Copy by) ns)
 copied_bytes dim es by [] = refl
-copied_bytes dim es by (n ∷ ns) = ap (λ (b : List ℕ). spelling (flat (copied dim es (edit.Copy n by) n)) ++ b) (copied_bytes dim es by ns)
+copied_bytes dim es by (n ∷ ns) = ap (λ (b : List ℕ). spelling (flat (copied (displacing dim by) es n)) ++ b) (copied_bytes dim es by ns)
 
 -- and roots copied
 pub copies_fenced : (dim : ℕ) (es : List Element) (by : Displacement) → IsDimension dim → AllByRecursion (IsWellFormed dim) es → BeginsWithTcb es → IsShift by
@@ -317,15 +317,17 @@ pub fenced : (f : List ℕ) (dim : ℕ) (es : List Element) (t : List ℕ) (rest
     → Opens f dim es t
     → cause_of_all dim es rest (edits_at e ns) ≡ None → IsFenced dim es e ns
 fenced f dim es t rest (fence.Move by) ns fits some opens none =
-    in_place_fenced dim (opened_axes f dim es t opens) es opens.each opens.first (edit.Move 0 by) (fence.Move by) (moves_in_place dim es by) fits ns some
+    in_place_fenced dim (opened_axes f dim es t opens) es opens.each opens.first (moving dim by) (IsReady dim (edit.Move 0 by)) (fence.Move by)
+    (moves_in_place dim (opened_axes f dim es t opens) es by fits) ns some
     (each_accepted dim es (fence.Move by) opens.each opens.first rest ns none)
 fenced f dim es t rest (fence.Copy by) ns fits some opens none =
     copies_fenced dim es by (opened_axes f dim es t opens) opens.each opens.first fits ns
     (each_accepted dim es (fence.Copy by) opens.each opens.first rest ns none)
 fenced f dim es t rest (fence.Sym change) ns fits some opens none =
-    in_place_fenced dim (opened_axes f dim es t opens) es opens.each opens.first (edit.Sym 0 change) (fence.Sym change) (looks_in_place dim es change)
-    fits ns some
+    in_place_fenced dim (opened_axes f dim es t opens) es opens.each opens.first (recolouring change) (IsReady dim (edit.Sym 0 change)) (fence.Sym change)
+    (looks_in_place dim (opened_axes f dim es t opens) es change fits) ns some
     (each_accepted dim es (fence.Sym change) opens.each opens.first rest ns none)
 fenced f dim es t rest fence.Delete ns fits some opens none =
-    in_place_fenced dim (opened_axes f dim es t opens) es opens.each opens.first (edit.Delete 0) fence.Delete (marks_in_place dim es) fits ns some
+    in_place_fenced dim (opened_axes f dim es t opens) es opens.each opens.first deleting (IsReady dim (edit.Delete 0)) fence.Delete
+    (marks_in_place dim (opened_axes f dim es t opens) es) ns some
     (each_accepted dim es fence.Delete opens.each opens.first rest ns none)

@@ -10,7 +10,7 @@ use Rattle.dgn_drawing.specs.Element.{Element}
 use Rattle.elem_index.specs.Offsets.{offset_of}
 use Rattle.edit_ops.specs.declared.causes.cause.Cause.{Cause}
 use Rattle.edit_ops.specs.declared.causes.edit_fault.EditFault.{EditFault}
-use Rattle.edit_ops.specs.declared.asking.test.Test.TheVariants as tests
+use Rattle.edit_ops.specs.declared.causes.test.Test.TheVariants as tests
 use Rattle.edit_ops.specs.Trees.{Live, live_tree, above_tree, found_at}
 use Rattle.edit_ops.specs.Causes.{unwidened, cause_at, first_of, target_of}
 use Rattle.edit_ops.specs.Applying.{ChangesInPlace}

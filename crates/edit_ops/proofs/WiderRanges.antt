@@ -28,10 +28,11 @@ use Rattle.dgn_drawing.proofs.FieldPlaces.{all-sits}
 use Rattle.elem_index.specs.declared.design.Design.{Design}
 use Rattle.elem_index.specs.Design.{elements, IsWhole}
 use Rattle.elem_index.specs.Offsets.{offset_of}
-use Rattle.edit_ops.specs.declared.asking.element_view.ElementView.{ElementView}
+use Rattle.edit_ops.specs.declared.elements.element_view.ElementView.{ElementView}
 use Rattle.edit_ops.specs.ElementViews.{IsElementView}
 use Rattle.edit_ops.specs.Trees.{Live, found_at}
-use Rattle.edit_ops.specs.Written.{wider_puts, holding_puts, above_puts}
+use Rattle.edit_ops.specs.Rules.{rule_of, moving, wider_puts, holding_puts}
+use Rattle.edit_ops.specs.Written.{above_puts}
 use Rattle.edit_ops.proofs.ReadableElements.{IsShown, is_shown, shown_long}
 use Rattle.elem_index.proofs.Places.{axes_of}
 
@@ -86,7 +87,7 @@ nothing [] = refl
 nothing (v ∷ vs) = nothing vs
 
 -- without an element nothing is put into headers
-pub above_none : (dim : ℕ) (e : Edit) (vs : List Live) → above_puts dim e None vs ≡ []
+pub above_none : (dim : ℕ) (e : Edit) (vs : List Live) → above_puts (rule_of dim e) None vs ≡ []
 above_none dim (edit.Move n by) vs = nothing vs
 above_none dim (edit.Copy n by) vs = nothing vs
 above_none dim (edit.Sym n change) vs = nothing vs
@@ -95,7 +96,7 @@ above_none dim (edit.Append new) vs = nothing vs
 
 -- an edit that moves nothing puts nothing into headers
 pub above_still : (dim : ℕ) (e : Edit) (head : Option Element) (vs : List Live) → ((n : ℕ) (by : Displacement) → ¬ (e ≡ edit.Move n by))
-    → above_puts dim e head vs ≡ []
+    → above_puts (rule_of dim e) head vs ≡ []
 above_still dim (edit.Move n by) head vs still = absurd (still n by refl)
 above_still dim (edit.Copy n by) head vs still = nothing vs
 above_still dim (edit.Sym n change) head vs still = nothing vs
@@ -222,11 +223,11 @@ module _ (d : Design) (whole : IsWhole d) (m : ℕ) (f : ElementView) (here : Is
       )
 
   -- headers above a moved element are made to hold its moved range
-  pub above_moved : (n : ℕ) (by : Displacement) (vs : List Live) → has_spots (class_of here.element.kind) ≡ true
-      → above_puts d.dim (edit.Move n by) (slice_get (elements d) m) vs ≡ all_wider d.dim (range_moved d.dim by f.bytes.now) vs
-  above_moved n by vs some =
+  pub above_moved : (by : Displacement) (vs : List Live) → has_spots (class_of here.element.kind) ≡ true
+      → above_puts (moving d.dim by) (slice_get (elements d) m) vs ≡ all_wider d.dim (range_moved d.dim by f.bytes.now) vs
+  above_moved by vs some =
       let shown = with_spots some in
-      ap (λ (o : Option Element). above_puts d.dim (edit.Move n by) o vs) here.there
+      ap (λ (o : Option Element). above_puts (moving d.dim by) o vs) here.there
       ∙ ap (λ (body : Body). flat_map (λ (v : Live). holding_puts d.dim (body_displaced (take d.dim by.by) body) v.place (spell v.element)) vs) shown.body
       ∙ ap (λ (low : List ℤ). all_wider d.dim (record { lo = displaced (take d.dim by.by) low; hi = displaced (take d.dim by.by) shown.display.high }) vs)
       (sym (low_read shown))

@@ -11,7 +11,8 @@ use Rattle.edit_ops.specs.declared.causes.cause.Cause.{Cause}
 use Rattle.edit_ops.specs.declared.causes.cause.Cause.TheVariants as causes
 use Rattle.edit_ops.specs.Causes.{cause_of}
 use Rattle.edit_ops.specs.Applying.{Done, apply, copied}
-use Rattle.edit_ops.specs.Fields.{edited_fields}
+use Rattle.edit_ops.specs.Rules.{displacing}
+use Rattle.edit_ops.specs.EditedFields.{edited_fields}
 
 -- a display part with these corners and this attribute index
 abbrev display : List ℤ → List ℤ → ℕ → Display
@@ -137,7 +138,7 @@ unfolding nest_within spell body_bytes display_bytes parts_bytes
 copy-member = refl
 
 -- so its first byte is 01, where that of the member is 81
-first_byte-copied : (take 1 (spelling (flat (copied 2 (drawing 53) (edit.Copy 2 one_one) 2))) ≡ 1 ∷ [])
+first_byte-copied : (take 1 (spelling (flat (copied (displacing 2 one_one) (drawing 53) 2))) ≡ 1 ∷ [])
     × (take 1 (spell (member (pos 0) (pos 0) (pos 100) (pos 50))) ≡ 129 ∷ [])
 unfolding nest_within spell body_bytes display_bytes parts_bytes
 first_byte-copied = (refl, refl)

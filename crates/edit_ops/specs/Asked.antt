@@ -5,7 +5,7 @@ use Rattle.dgn_drawing.specs.declared.edit.Edit.{Edit}
 use Rattle.dgn_drawing.specs.declared.edit.Edit.TheVariants as edit
 use Rattle.dgn_drawing.specs.Element.{Element}
 use Rattle.edit_ops.specs.declared.causes.cause.Cause.{Cause}
-use Rattle.edit_ops.specs.declared.asking.test.Test.TheVariants as tests
+use Rattle.edit_ops.specs.declared.causes.test.Test.TheVariants as tests
 use Rattle.edit_ops.specs.Trees.{live_tree, above_tree}
 use Rattle.edit_ops.specs.Causes.{first_cause, other_axes, causes_of}
 

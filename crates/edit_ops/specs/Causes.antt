@@ -14,8 +14,8 @@ use Rattle.dgn_drawing.specs.Changes.{stays_on_plane}
 use Rattle.dgn_drawing.specs.NewElements.{element_made}
 use Rattle.edit_ops.specs.declared.causes.cause.Cause.{Cause}
 use Rattle.edit_ops.specs.declared.causes.cause.Cause.TheVariants as causes
-use Rattle.edit_ops.specs.declared.asking.test.Test.{Test}
-use Rattle.edit_ops.specs.declared.asking.test.Test.TheVariants as tests
+use Rattle.edit_ops.specs.declared.causes.test.Test.{Test}
+use Rattle.edit_ops.specs.declared.causes.test.Test.TheVariants as tests
 use Rattle.edit_ops.specs.Trees.{Live, tree_at, live_tree, above_tree, path_to}
 use Rattle.dgn_drawing.specs.declared.limits.TheConstants.{MOST_DESIGN}
 use Rattle.dgn_layout.specs.declared.TheConstants.{END_MARK}

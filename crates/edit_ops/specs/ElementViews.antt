@@ -7,7 +7,7 @@ use Rattle.elem_index.specs.Offsets.{offset_of}
 use Rattle.dgn_drawing.specs.Element.{Element}
 use Rattle.dgn_drawing.specs.Spelling.{spell}
 use Rattle.dgn_drawing.specs.WellFormed.{IsWellFormed}
-use Rattle.edit_ops.specs.declared.asking.element_view.ElementView.{ElementView}
+use Rattle.edit_ops.specs.declared.elements.element_view.ElementView.{ElementView}
 use Rattle.edit_ops.specs.Trees.{above_tree, live_tree, found_at}
 use Rattle.edit_ops.specs.Causes.{part_cause}
 

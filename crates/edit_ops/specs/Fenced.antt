@@ -18,7 +18,9 @@ use Rattle.edit_ops.specs.declared.causes.cause.Cause.{Cause}
 use Rattle.edit_ops.specs.Trees.{live_map}
 use Rattle.edit_ops.specs.Causes.{bytes_appended, cause_of}
 use Rattle.edit_ops.specs.Applying.{Applied, copied, applied_unless}
-use Rattle.edit_ops.specs.Fields.{Field, edited_fields}
+use Rattle.edit_ops.specs.Fields.{Field}
+use Rattle.edit_ops.specs.EditedFields.{edited_fields}
+use Rattle.edit_ops.specs.Rules.{rule_of}
 
 -- the edit of root n that it asks for
 abbrev pub edit_at : FenceEdit → ℕ → Edit
@@ -51,7 +53,7 @@ roots_changed change es ns = chosen_map change (λ n. list_any (λ m. m == n) ns
 -- the copies of the trees of these roots, one behind the other
 abbrev pub copies : ℕ → List Element → FenceEdit → List ℕ → Forest Element
 copies dim es e [] = NoTree
-copies dim es e (n ∷ ns) = joined (copied dim es (edit_at e n) n) (copies dim es e ns)
+copies dim es e (n ∷ ns) = joined (copied (rule_of dim (edit_at e n)) es n) (copies dim es e ns)
 
 -- the trees that an accepted edit of these roots leaves
 abbrev pub fenced_forest : ℕ → List Element → FenceEdit → List ℕ → Forest Element

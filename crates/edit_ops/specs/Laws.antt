@@ -10,11 +10,13 @@ use Rattle.dgn_drawing.specs.Numbering.{span_of, root_of}
 use Rattle.elem_index.specs.Offsets.{offset_of}
 use Rattle.dgn_drawing.specs.Opening.{Opens}
 use Rattle.edit_ops.specs.declared.causes.cause.Cause.{Cause}
-use Rattle.edit_ops.specs.declared.asking.test.Test.{Test}
+use Rattle.edit_ops.specs.declared.causes.test.Test.{Test}
 use Rattle.edit_ops.specs.Trees.{Live, live_tree, above_tree, path_to}
 use Rattle.edit_ops.specs.Causes.{target_of, cause_at, first_cause, bytes_appended}
 use Rattle.edit_ops.specs.Applying.{Done, apply, changed_forest, IsEdit}
-use Rattle.edit_ops.specs.Fields.{Field, IsIn, Rise, fields_at, above_fields_at, edited_fields, filled}
+use Rattle.edit_ops.specs.Fields.{Field, IsIn, Rise, filled}
+use Rattle.edit_ops.specs.EditedFields.{edited_fields}
+use Rattle.edit_ops.specs.Rules.{rule_of}
 use Rattle.dgn_drawing.specs.declared.limits.TheConstants.{MOST_DESIGN}
 
 -- an edit that is done on the elements of a file: what it leaves opens in the same dimension, with the same tail
@@ -58,8 +60,8 @@ pub record FieldsLieApart (dim : ℕ) (es : List Element) (e : Edit) : Type 0 wh
   pub in_tree : (n root end : ℕ) → target_of e ≡ Some n → root_of row_of es n ≡ Some root
       → span_of row_of es root ≡ Some (root, end)
       → Rise (offset_of es root) (edited_fields dim es e) (offset_of es end)
-  pub within : (n : ℕ) → target_of e ≡ Some n → LieIn (λ v. fields_at dim e v.place v.element) (live_tree es n)
-  pub above : (n : ℕ) → target_of e ≡ Some n → LieIn (λ v. above_fields_at dim e v.place) (above_tree es n)
+  pub within : (n : ℕ) → target_of e ≡ Some n → LieIn (λ v. (rule_of dim e).fields v.place v.element) (live_tree es n)
+  pub above : (n : ℕ) → target_of e ≡ Some n → LieIn (λ v. (rule_of dim e).over v.place) (above_tree es n)
 
 abbrev pub EditedFieldsAreApart : Type 0
 EditedFieldsAreApart =

@@ -8,6 +8,8 @@ pub mod Trees
 pub mod Causes
 pub mod Applying
 pub mod Fields
+pub mod EditedFields
+pub mod Rules
 pub mod Written
 pub mod ElementViews
 pub mod Asking

@@ -8,7 +8,8 @@ use Rattle.edit_ops.specs.declared.causes.edit_fault.EditFault.{EditFault}
 use Rattle.edit_ops.specs.declared.causes.edit_fault.EditFault.TheVariants as faults
 use Rattle.edit_ops.specs.declared.types.plan.Plan.{Plan}
 use Rattle.edit_ops.specs.Applying.{Applied, Done, Refused, apply}
-use Rattle.edit_ops.specs.Fields.{edited_fields, filled}
+use Rattle.edit_ops.specs.Fields.{filled}
+use Rattle.edit_ops.specs.EditedFields.{edited_fields}
 use Rattle.edit_ops.specs.Fenced.{apply_all, fenced_fields}
 
 -- the edit is done, and the plan is its fields with the bytes that the result has there, and the bytes of the

@@ -1,5 +1,6 @@
-// The copies of a part: of a whole tree, of an element alone, and of a tree of another drawing.
+// The copy of a part: of a whole tree and of an element alone, and what stands against it.
 
-pub mod imported;
+pub mod cause;
+pub mod copy;
 pub mod lone;
 pub mod tree;

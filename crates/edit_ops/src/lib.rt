@@ -6,29 +6,30 @@
 //! is. A move also widens the ranges of the headers above the part.
 #![tactic(auto)]
 
-mod asking;
 mod causes;
+mod changes;
 mod copies;
-mod fenced;
+mod elements;
 pub mod laws;
 mod parts;
 mod plans;
 pub mod types;
+mod values;
 
-pub use asking::element_view::ElementView;
-pub use asking::finding::find;
-pub(crate) use asking::first::{first_cause, move_cause};
-pub(crate) use asking::shift::same_shift;
-pub(crate) use asking::test::Test;
 pub use causes::cause::Cause;
 pub use causes::edit_fault::EditFault;
+pub(crate) use causes::first::first_cause;
 pub(crate) use causes::part::{other_axes, part_cause, silent, too_long, unknown};
-pub use copies::imported::copy_tree;
+pub(crate) use causes::test::Test;
+pub(crate) use changes::live::{number_patch, push_live};
+pub(crate) use copies::cause::move_cause;
+pub use copies::copy::copy_tree;
 pub use copies::tree::part_bytes;
 pub(crate) use copies::tree::part_len;
-pub use fenced::plan_all;
+pub use elements::element_view::ElementView;
+pub use elements::finding::find;
 pub use parts::live::part_end;
 pub(crate) use parts::live::put_live_numbers;
-pub(crate) use parts::live_patches::{number_patch, push_live};
 pub(crate) use parts::lone::is_lone_root;
 pub use plans::edit::plan;
+pub use plans::fenced::plan_all;

@@ -1,6 +1,5 @@
-// What an edit puts into the live elements of a part, and into the headers above it.
+// The part of an element: its live elements, the headers above it, and whether it is one element by itself.
 
 pub mod above;
 pub mod live;
-pub mod live_patches;
 pub mod lone;

@@ -7,7 +7,7 @@ ghost use Rattle.edit_ops.specs.Trees.{above_tree};
 ghost use Rattle.edit_ops.specs.Causes.{unknown, broken, broken_in, silent, other_axes, too_long, part_cause};
 ghost use Rattle.edit_ops.specs.Written.{lives_of};
 
-use crate::asking::first::{cause_against, first_cause};
+use crate::causes::first::{cause_against, first_cause};
 use crate::{Cause, ElementView, Test, find};
 use dgn_drawing::MOST_DESIGN;
 use dgn_layout::is_silent;

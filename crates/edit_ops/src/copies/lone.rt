@@ -18,11 +18,11 @@ ghost use Rattle.edit_ops.specs.Causes.{unmovable};
 ghost use Rattle.edit_ops.specs.Copying.{tree_copy, copy_cause, IsStopped};
 ghost use Rattle.edit_ops.specs.ElementViews.{IsElementView};
 ghost use Rattle.edit_ops.specs.Trees.{found_at, live_tree, tree_at};
-ghost use Rattle.edit_ops.specs.Written.{sum_put};
+ghost use Rattle.edit_ops.specs.Rules.{sum_put};
 
-use crate::asking::first::unmovable;
-use crate::asking::shift::is_shift;
+use crate::causes::first::unmovable;
 use crate::copies::tree::free_first;
+use crate::values::is_shift;
 use crate::{Cause, EditFault, ElementView};
 use dgn_drawing::{Shift, put_number, sum};
 use dgn_layout::{Spot, class};

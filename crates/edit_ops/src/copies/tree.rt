@@ -8,13 +8,14 @@ ghost use Rattle.elem_index.specs.Offsets.{offset_of};
 ghost use Rattle.edit_ops.specs.Trees.{tree_at, live_tree};
 ghost use Rattle.patch_bytes.specs.Puts.{write, Span};
 ghost use Rattle.edit_ops.specs.Applying.{IsEdit, copied};
+ghost use Rattle.edit_ops.specs.Rules.{rule_of};
 ghost use Rattle.edit_ops.specs.Written.{lives_of, live_puts, IsReady};
 ghost use Rattle.edit_ops.specs.Copying.{AddsUnless};
 ghost use Rattle.edit_ops.specs.Putting.{MayBePut, leaving};
 
 use crate::EditFault;
+use crate::changes::live::push_live;
 use crate::parts::live::part_end;
-use crate::parts::live_patches::push_live;
 use dgn_drawing::{Edit, MOST_DESIGN};
 use level_view::Drawing;
 use patch_bytes::{Patch, PatchList, swap_in};
@@ -69,7 +70,7 @@ pub fn push_copy(
     requires live { lives_of (elements d.now) live.now ≡ live_tree (elements d.now) n }
     requires readable { AllByRecursion (λ v. MayBePut edit.now v.element) (live_tree (elements d.now) n) }
     ensures copied { AddsUnless (leaving d.now.dim edit.now (live_tree (elements d.now) n))
-        (spelling (flat (copied d.now.dim (elements d.now) edit.now n))) result out.old.items out.new.items }
+        (spelling (flat (copied (rule_of d.now.dim edit.now) (elements d.now) n))) result out.old.items out.new.items }
     ensures kept { OnErr result (out.new.items ≡ out.old.items) }
 {
     let mut patches = PatchList::new(alloc);
@@ -85,9 +86,9 @@ fn lay_part(copy: &mut [u8], d: &Drawing<'_>, n: u32, _edit: &Edit, patches: &Pa
     requires known { n < length (elements d.now) }
     requires fits { IsEdit _edit.now }
     requires ready { AllByRecursion (λ v. IsReady d.now.dim _edit.now v.element) (live_tree (elements d.now) n) }
-    requires patches { patches.now ≡ live_puts d.now.dim _edit.now (live_tree (elements d.now) n) }
+    requires patches { patches.now ≡ live_puts (rule_of d.now.dim _edit.now) (live_tree (elements d.now) n) }
     requires same { copy.old ≡ spelling (flat (tree_at n (forest row_of (elements d.now)))) }
-    ensures { copy.new ≡ spelling (flat (copied d.now.dim (elements d.now) _edit.now n)) }
+    ensures { copy.new ≡ spelling (flat (copied (rule_of d.now.dim _edit.now) (elements d.now) n)) }
 {
     d.is_whole();
     lay_all(copy, place_of(d, n) as u32, patches);

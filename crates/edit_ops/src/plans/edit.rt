@@ -8,15 +8,16 @@ ghost use Rattle.edit_ops.specs.Trees.{above_tree, live_tree};
 ghost use Rattle.edit_ops.specs.Applying.{apply, ChangesInPlace, IsEdit};
 ghost use Rattle.edit_ops.specs.Causes.{target_of, part_cause, causes_of, first_of};
 ghost use Rattle.edit_ops.specs.Copying.{tree_copy, AddsUnless};
+ghost use Rattle.edit_ops.specs.Rules.{rule_of};
 ghost use Rattle.edit_ops.specs.Planned.{IsPlan, IsRefused, PlansUnless};
 ghost use Rattle.edit_ops.specs.Written.{lives_of, part_puts};
 
-use crate::asking::shift::is_shift;
-use crate::causes::edit::{append_cause, edit_cause, growth_cause};
+use crate::causes::in_place::{append_cause, edit_cause, growth_cause};
+use crate::changes::headers::push_part;
 use crate::parts::above::put_numbers_above;
 use crate::plans::numbers::{Numbers, no_numbers};
-use crate::plans::patches::push_part;
 use crate::types::Plan;
+use crate::values::is_edit;
 use crate::{
     Cause, EditFault, copy_tree, is_lone_root, move_cause, other_axes, part_cause, part_len,
     put_live_numbers, unknown,
@@ -160,7 +161,7 @@ fn plan_in_place(
     requires in_place { ChangesInPlace edit.now }
     requires fits { IsEdit edit.now }
     ensures { AddsUnless (option_or (part_cause d.now.dim (elements d.now) n) (first_of (causes_of d.now.dim (elements d.now) 0 edit.now)))
-        (part_puts d.now.dim (elements d.now) edit.now n) result patches.old patches.new }
+        (part_puts (rule_of d.now.dim edit.now) (elements d.now) n) result patches.old patches.new }
 {
     if is_lone_root(d, n) {
         return plan_found(d, n, edit, &[], &[n], patches);
@@ -190,7 +191,7 @@ fn plan_found(
     requires unkept { part_cause d.now.dim (elements d.now) n ≡ None }
     requires above { lives_of (elements d.now) above.now ≡ above_tree (elements d.now) n }
     requires live { lives_of (elements d.now) live.now ≡ live_tree (elements d.now) n }
-    ensures { AddsUnless (first_of (causes_of d.now.dim (elements d.now) 0 edit.now)) (part_puts d.now.dim (elements d.now) edit.now n)
+    ensures { AddsUnless (first_of (causes_of d.now.dim (elements d.now) 0 edit.now)) (part_puts (rule_of d.now.dim edit.now) (elements d.now) n)
         result patches.old patches.new }
 {
     if let Some(cause) = edit_cause(d, edit, above, live) {
@@ -222,22 +223,6 @@ fn plan_append(
     let bytes = spelled(alloc, new)?;
     all.append.push_all(&bytes)?;
     Ok(())
-}
-
-// The values of an edit are such as its type keeps. It does nothing.
-fn is_edit(edit: &Edit)
-    ensures { IsEdit edit.now }
-{
-    match edit {
-        Edit::Move { by, .. } | Edit::Copy { by, .. } => is_shift(by),
-        Edit::Sym { change, .. } => {
-            let _color = change.color;
-        }
-        Edit::Delete { .. } => {}
-        Edit::Append(new) => {
-            let _level = new.level;
-        }
-    }
 }
 
 // The element whose part an edit changes or copies, where it names one.

@@ -1,7 +1,7 @@
 use Rattle.std.proofs.Common.{List, ℕ, ◌++◌, map, sym, ap, ◌∙◌}
 use Rattle.dgn_layout.specs.Spots.{spots_of}
 use Rattle.patch_bytes.specs.Puts.{write}
-use Rattle.edit_ops.specs.Written.{sum_put}
+use Rattle.edit_ops.specs.Rules.{sum_put}
 use Rattle.edit_ops.proofs.LoneCopy.{points_held, alone_copied}
 use Rattle.edit_ops.proofs.copies.lone.lay_copy.Goals as goal
 

@@ -7,7 +7,7 @@ use Rattle.dgn_layout.specs.Spots.{spots_of}
 use Rattle.dgn_layout.specs.SpotsLeft.{spots_left}
 use Rattle.dgn_drawing.specs.SpotNumbers.{sum_at, number_bytes}
 use Rattle.patch_bytes.specs.Puts.{Put, write}
-use Rattle.edit_ops.specs.Written.{sum_put}
+use Rattle.edit_ops.specs.Rules.{sum_put}
 use Rattle.dgn_drawing.proofs.SpotSteps.{LieIn}
 use Rattle.edit_ops.proofs.ElementMoves.{stays_next}
 use Rattle.edit_ops.proofs.TextTurns.{lay_behind}

@@ -4,7 +4,7 @@ use Rattle.dgn_drawing.specs.Values.{Displacement}
 use Rattle.dgn_drawing.specs.Spelling.{spelling}
 use Rattle.dgn_drawing.specs.Nesting.{flat}
 use Rattle.elem_index.specs.Design.{elements}
-use Rattle.edit_ops.specs.declared.asking.test.Test.TheVariants as tests
+use Rattle.edit_ops.specs.declared.causes.test.Test.TheVariants as tests
 use Rattle.edit_ops.specs.declared.causes.cause.Cause.{Cause}
 use Rattle.edit_ops.specs.Trees.{Live, live_tree}
 use Rattle.edit_ops.specs.Causes.{other_axes, first_cause, part_cause}

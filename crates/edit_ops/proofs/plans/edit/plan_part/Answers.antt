@@ -9,6 +9,7 @@ use Rattle.edit_ops.specs.declared.types.plan.Plan.{Plan}
 use Rattle.edit_ops.specs.Applying.{copied}
 use Rattle.edit_ops.specs.Causes.{part_cause, causes_of, first_of}
 use Rattle.edit_ops.specs.Copying.{tree_copy}
+use Rattle.edit_ops.specs.Rules.{rule_of}
 use Rattle.edit_ops.specs.Written.{part_puts}
 use Rattle.edit_ops.proofs.PlanBehind.{appends_behind, writes_behind}
 use Rattle.edit_ops.proofs.CauseOrder.{known_is, later_first, planned_unless, copied_plan, changed_plan, causes_in_place, is_in_place}
@@ -33,7 +34,7 @@ returns-in-Copy c =
           appends_behind d.dim es rest e c.args.all.now after bytes
           (copied_plan d.dim es rest e c.args.n c.args.n c.in-Copy.by (record { patches = []; append = bytes }) c.requires.target named
           (later_first d.dim es rest e c.args.n c.requires.target known ∙ same ∙ free) refl
-          (ap (λ (x : Edit). spelling (flat (copied d.dim es x c.args.n))) (sym named)))
+          (ap (λ (x : Edit). spelling (flat (copied (rule_of d.dim x) es c.args.n))) (sym named)))
           refl more);
       known = λ _. known;
     }
@@ -47,7 +48,7 @@ returns c =
     let known : c.args.n < length es = known_is c.args.n es (sym c.unknown.ensures ∙ c.in_default.is) in
     let here = is_in_place e c.args.n c.requires.target c.in_default-edit.not-Copy in
     let same = ap (option_or (part_cause d.dim es c.args.n)) (causes_in_place d.dim es rest e here) in
-    let puts = part_puts d.dim es e c.args.n in
+    let puts = part_puts (rule_of d.dim e) es c.args.n in
     let after : Plan = record { patches = c.plan_in_place.new.patches; append = c.args.all.now.append } in
     record {
       planned = planned_unless puts c.args.all.now.patches c.plan_in_place.new.patches d.dim es rest e c.args.n c.plan_in_place.result c.args.all.now after
@@ -56,7 +57,7 @@ returns c =
           writes_behind d.dim es rest e c.args.all.now after puts
           (changed_plan (d.body.items ++ d.tail.items) d.dim es d.tail.items rest e c.args.n (record { patches = puts; append = [] })
           c.requires.fits c.is_whole.ensures.is_open.opens c.requires.target
-          c.in_default-edit.not-Copy (later_first d.dim es rest e c.args.n c.requires.target known ∙ same ∙ free) refl refl)
+          here (later_first d.dim es rest e c.args.n c.requires.target known ∙ same ∙ free) refl refl)
           more refl);
       known = λ _. known;
     }
