@@ -8,7 +8,7 @@ use Rattle.dgn_drawing.specs.declared.edit.Edit.{Edit}
 use Rattle.dgn_drawing.specs.declared.edit.Edit.TheVariants as edit
 use Rattle.dgn_drawing.specs.Element.{Element}
 use Rattle.dgn_drawing.specs.Spelling.{spell}
-use Rattle.edit_ops.specs.Trees.{Live, live_tree, above_tree}
+use Rattle.edit_ops.specs.Trees.{Live, reached, above_tree}
 use Rattle.edit_ops.specs.Fields.{Field, spot_fields}
 use Rattle.edit_ops.specs.EditedFields.{part_fields, edited_fields}
 use Rattle.edit_ops.specs.Rules.{Rule, rule_of}
@@ -45,18 +45,18 @@ at_few dim (edit.Sym n change) p x = (record { least = omega arith; most = omega
 at_few dim (edit.Delete n) p x = (record { least = omega arith; most = omega arith }, tt)
 at_few dim (edit.Append new) p x = tt
 
-above_few : (dim : ℕ) (e : Edit) (p : ℕ) → AllByRecursion HasFew ((rule_of dim e).over p)
-above_few dim (edit.Move n by) p = spots_few p (range_spots dim)
-above_few dim (edit.Copy n by) p = tt
-above_few dim (edit.Sym n change) p = tt
-above_few dim (edit.Delete n) p = tt
-above_few dim (edit.Append new) p = tt
+above_few : (dim : ℕ) (e : Edit) (p : ℕ) (x : Element) → AllByRecursion HasFew ((rule_of dim e).over p x)
+above_few dim (edit.Move n by) p x = spots_few p (range_spots dim)
+above_few dim (edit.Copy n by) p x = tt
+above_few dim (edit.Sym n change) p x = tt
+above_few dim (edit.Delete n) p x = tt
+above_few dim (edit.Append new) p x = tt
 
 part_few : (dim : ℕ) (es : List Element) (e : Edit) (n : ℕ) → AllByRecursion HasFew (part_fields (rule_of dim e) es n)
 part_few dim es e n =
     let r : Rule = rule_of dim e in
-    both_few _ _ (all_few (λ (v : Live). r.over v.place) (above_tree es n) (λ v. above_few dim e v.place))
-    (all_few (λ (v : Live). r.fields v.place v.element) (live_tree es n) (λ v. at_few dim e v.place v.element))
+    both_few _ _ (all_few (λ (v : Live). r.over v.place v.element) (above_tree es n) (λ v. above_few dim e v.place v.element))
+    (all_few (λ (v : Live). r.fields v.place v.element) (reached r.reach es n) (λ v. at_few dim e v.place v.element))
 
 edited_few : (dim : ℕ) (es : List Element) (e : Edit) → AllByRecursion HasFew (edited_fields dim es e)
 edited_few dim es (edit.Move n by) = part_few dim es (edit.Move n by) n

@@ -12,7 +12,8 @@ use Rattle.dgn_drawing.specs.Opening.{elements_of}
 use Rattle.dgn_drawing.proofs.Fronts.{body_spelled, elements-spelling}
 use Rattle.edit_ops.specs.Applying.{Done}
 use Rattle.edit_ops.specs.Causes.{too_long}
-use Rattle.edit_ops.proofs.AppendedElements.{appended_opens, short_left}
+use Rattle.edit_ops.proofs.WhatIsLeft.{appended_opens}
+use Rattle.edit_ops.proofs.AppendedElements.{short_left}
 use Rattle.dgn_import.specs.Gathering.{AreTrees}
 use Rattle.dgn_session.specs.State.{SessionValue, state_of, value_with}
 use Rattle.dgn_session.specs.Imported.{imported, import_entry}

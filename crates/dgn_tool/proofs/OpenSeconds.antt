@@ -19,7 +19,7 @@ use Rattle.elem_index.specs.Opened.{Opened, opening}
 use Rattle.elem_index.proofs.OpeningAnswers.{opens-opening}
 use Rattle.edit_ops.specs.Causes.{too_long}
 use Rattle.edit_ops.specs.declared.causes.cause.Cause.{Cause}
-use Rattle.edit_ops.proofs.AppendedElements.{appended_opens}
+use Rattle.edit_ops.proofs.WhatIsLeft.{appended_opens}
 use Rattle.dgn_import.specs.Seconds.{SecondValue, Drawing, Faulty, as_second, second_of}
 use Rattle.dgn_import.specs.Gathering.{Gathering, Trees, Bad, Dimension, Refused, fits, gathered, AreTrees}
 use Rattle.dgn_import.proofs.GatheredTrees.{are_trees, other_dim}

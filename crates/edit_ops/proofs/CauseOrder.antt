@@ -7,9 +7,6 @@ use Rattle.dgn_drawing.specs.declared.edit.Edit.{Edit}
 use Rattle.dgn_drawing.specs.declared.edit.Edit.TheVariants as edit
 use Rattle.dgn_drawing.specs.Values.{Displacement}
 use Rattle.dgn_drawing.specs.Element.{Element}
-use Rattle.dgn_drawing.specs.Spelling.{spell, spelling}
-use Rattle.dgn_drawing.specs.NewElements.{NewElement, element_made}
-use Rattle.dgn_drawing.specs.Opening.{Opens}
 use Rattle.dgn_drawing.specs.Nesting.{flat}
 use Rattle.edit_ops.specs.declared.causes.cause.Cause.{Cause}
 use Rattle.edit_ops.specs.declared.causes.cause.Cause.TheVariants as causes
@@ -17,16 +14,14 @@ use Rattle.edit_ops.specs.declared.causes.edit_fault.EditFault.{EditFault}
 use Rattle.edit_ops.specs.declared.causes.edit_fault.EditFault.TheVariants as faults
 use Rattle.edit_ops.specs.declared.types.plan.Plan.{Plan}
 use Rattle.edit_ops.specs.Causes.{unknown, part_cause, causes_of, first_of, target_of, target_cause, cause_of}
-use Rattle.edit_ops.specs.Applying.{Done, Refused, applied_unless, apply, changed_forest, copied, ChangesInPlace, IsEdit}
+use Rattle.edit_ops.specs.Applying.{Done, Refused, applied_unless, apply, changed_forest, ChangesInPlace}
 use Rattle.edit_ops.specs.Rules.{rule_of}
 use Rattle.edit_ops.specs.Written.{part_puts}
 use Rattle.edit_ops.specs.Copying.{AddsUnless}
-use Rattle.edit_ops.specs.Planned.{IsPlan, IsPlanBehind, PlansUnless}
+use Rattle.edit_ops.specs.Planned.{IsPlanBehind, PlansUnless}
 use Rattle.edit_ops.proofs.ListedLive.{or_assoc}
 use Rattle.edit_ops.proofs.AcceptedEdit.{met, named_cause, done_is}
-use Rattle.edit_ops.proofs.AppendedElements.{append_plan}
-use Rattle.edit_ops.proofs.CopyEdits.{copy_plan}
-use Rattle.edit_ops.proofs.EditInPlace.{in_place, plan_is}
+use Rattle.edit_ops.proofs.EditsLeft.{own_puts, own_bytes}
 
 -- the element is there where it isn't unknown
 pub known_is : (n : ℕ) (es : List Element) → unknown n es ≡ None → n < length es
@@ -77,32 +72,14 @@ same_some n m is = cc
 pub copy_named : (e : Edit) (m n : ℕ) (by : Displacement) → e ≡ edit.Copy m by → target_of e ≡ Some n → e ≡ edit.Copy n by
 copy_named e m n by is named = is ∙ ap (λ (k : ℕ). edit.Copy k by) (same_some m n (sym (ap target_of is) ∙ named))
 
--- a copy without a cause is planned by its bytes
-pub copied_plan : (dim : ℕ) (es : List Element) (rest : ℕ) (e : Edit) (n m : ℕ) (by : Displacement) (p : Plan) → target_of e ≡ Some n → e ≡ edit.Copy m by
-    → cause_of dim es rest e ≡ None
-    → p.patches ≡ [] → p.append ≡ spelling (flat (copied (rule_of dim e) es n)) → IsPlan dim es rest e p
-copied_plan dim es rest e n m by p named is none patches append =
-    let same : n ≡ m = same_some n m (sym named ∙ ap target_of is) in
-    let bytes : p.append ≡ spelling (flat (copied (rule_of dim (edit.Copy m by)) es m)) =
-    append ∙ ap (λ (x : Edit). spelling (flat (copied (rule_of dim x) es n))) is ∙ ap (λ (k : ℕ). spelling (flat (copied (rule_of dim (edit.Copy m by)) es k))) same in
-    let free : cause_of dim es rest (edit.Copy m by) ≡ None = ap (cause_of dim es rest) (sym is) ∙ none in
-    subst (λ (x : Edit). IsPlan dim es rest x p) (sym is) (copy_plan dim es rest m by p free patches bytes)
-
--- an appended element without a cause is planned by its bytes
-pub made_plan : (dim : ℕ) (es : List Element) (rest : ℕ) (e : Edit) (new : NewElement) (p : Plan) → e ≡ edit.Append new
-    → first_of (causes_of dim es rest e) ≡ None
-    → p.patches ≡ [] → p.append ≡ spell (element_made new) → IsPlan dim es rest e p
-made_plan dim es rest e new p is none patches append =
-    let free : cause_of dim es rest (edit.Append new) ≡ None = ap (λ (x : Edit). first_of (causes_of dim es rest x)) (sym is) ∙ none in
-    subst (λ (x : Edit). IsPlan dim es rest x p) (sym is) (append_plan dim es rest new p free patches append)
-
--- another edit of a part without a cause is planned by what it puts into the part and the headers above it
-pub changed_plan : (f : List ℕ) (dim : ℕ) (es : List Element) (t : List ℕ) (rest : ℕ) (e : Edit) (n : ℕ) (p : Plan) → IsEdit e → Opens f dim es t
-    → target_of e ≡ Some n
-    → ChangesInPlace e → cause_of dim es rest e ≡ None → p.patches ≡ part_puts (rule_of dim e) es n → p.append ≡ []
-    → IsPlan dim es rest e p
-changed_plan f dim es t rest e n p fits opens named here none patches append =
-    plan_is f dim es t rest e n fits opens (in_place dim es e n named here) p none patches append
+-- an edit that changes elements where they stand puts what its row puts into the part and the headers above it
+pub puts_in_place : (dim : ℕ) (es : List Element) (e : Edit) (n : ℕ) → target_of e ≡ Some n → ChangesInPlace e
+    → (own_puts dim es e ≡ part_puts (rule_of dim e) es n) × (own_bytes dim es e ≡ [])
+puts_in_place dim es (edit.Move m by) n named here = (ap (part_puts (rule_of dim (edit.Move m by)) es) (same_some m n named), refl)
+puts_in_place dim es (edit.Copy m by) n named here = absurd here
+puts_in_place dim es (edit.Sym m change) n named here = (ap (part_puts (rule_of dim (edit.Sym m change)) es) (same_some m n named), refl)
+puts_in_place dim es (edit.Delete m) n named here = (ap (part_puts (rule_of dim (edit.Delete m)) es) (same_some m n named), refl)
+puts_in_place dim es (edit.Append new) n named here = absurd here
 
 -- an edit that changes elements where they stand has the same causes, whatever else the file has
 pub causes_in_place : (dim : ℕ) (es : List Element) (rest : ℕ) (e : Edit) → ChangesInPlace e

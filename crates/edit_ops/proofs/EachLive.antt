@@ -10,7 +10,7 @@ use Rattle.dgn_drawing.specs.Nesting.{Knot, Forest, NoTree, Tree, flat, forest}
 use Rattle.dgn_drawing.specs.Numbering.{end_of}
 use Rattle.nest_tree.proofs.NestingSteps.{flat-forest}
 use Rattle.elem_index.specs.Offsets.{offset_of}
-use Rattle.edit_ops.specs.Trees.{count_in, tree_at, Live, live_from, live_tree, above_from, above_tree}
+use Rattle.edit_ops.specs.Trees.{count_in, tree_at, Live, live_from, live_tree, above_from, above_tree, every_from, Reach, Living, Every, Head, reached_from, reached}
 
 module _ {A : Type 0} (P : A → Type 0) where
   -- what holds of each of two lists holds of each of both
@@ -72,6 +72,31 @@ live_each P n p (Tree knot e below behind) each =
 pub live_tree_each : (P : Element → Type 0) (es : List Element) (n : ℕ) → AllByRecursion P es → AllByRecursion (λ (v : Live). P v.element) (live_tree es n)
 live_tree_each P es n each =
     live_each P n (offset_of es n) (tree_at n (forest row_of es))
+    (tree_each P n (forest row_of es) (subst (AllByRecursion P) (sym (flat-forest row_of es)) each))
+
+-- and of each of all
+every_each : (P : Element → Type 0) (n p : ℕ) (f : Forest Element) → AllByRecursion P (flat f) → AllByRecursion (λ (v : Live). P v.element) (every_from n p f)
+every_each P n p NoTree each = tt
+every_each P n p (Tree knot e below behind) each = (
+  each.0,
+  each_both (λ (v : Live). P v.element) (every_from (n + 1) (p + size_of e) below)
+      (every_from (end_of n below) (p + (size_of e + length (spelling (flat below)))) behind)
+      (every_each P (n + 1) (p + size_of e) below (each_first P (flat below) (flat behind) each.1))
+      (every_each P (end_of n below) (p + (size_of e + length (spelling (flat below)))) behind (each_last P (flat below) (flat behind) each.1)),
+)
+
+-- so of each that a change reaches
+pub reach_each : (P : Element → Type 0) (reach : Reach) (n p : ℕ) (f : Forest Element) → AllByRecursion P (flat f)
+    → AllByRecursion (λ (v : Live). P v.element) (reached_from reach n p f)
+reach_each P Living n p f each = live_each P n p f each
+reach_each P Every n p f each = every_each P n p f each
+reach_each P Head n p NoTree each = tt
+reach_each P Head n p (Tree knot e below behind) each = (each.0, tt)
+
+pub reached_each : (P : Element → Type 0) (reach : Reach) (es : List Element) (n : ℕ) → AllByRecursion P es
+    → AllByRecursion (λ (v : Live). P v.element) (reached reach es n)
+reached_each P reach es n each =
+    reach_each P reach n (offset_of es n) (tree_at n (forest row_of es))
     (tree_each P n (forest row_of es) (subst (AllByRecursion P) (sym (flat-forest row_of es)) each))
 
 -- what holds of each element of trees holds of each header above one

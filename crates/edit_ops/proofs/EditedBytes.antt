@@ -13,7 +13,7 @@ use Rattle.dgn_drawing.specs.Spelling.{spell, spelling}
 use Rattle.dgn_drawing.specs.WellFormed.{IsWellFormed}
 use Rattle.dgn_drawing.specs.Rows.{row_of}
 use Rattle.dgn_drawing.specs.Nesting.{flat, forest}
-use Rattle.edit_ops.specs.Trees.{tree_at, live_map, live_tree, above_tree}
+use Rattle.edit_ops.specs.Trees.{tree_at, reach_map, reached, above_tree}
 use Rattle.edit_ops.specs.Applying.{altered}
 use Rattle.edit_ops.specs.Fields.{Field, filled}
 use Rattle.edit_ops.specs.EditedFields.{above_fields, part_fields}
@@ -21,9 +21,9 @@ use Rattle.edit_ops.specs.Rules.{Rule}
 use Rattle.edit_ops.specs.Written.{above_puts, live_puts, part_puts}
 use Rattle.edit_ops.proofs.ReadableElements.{is_shown}
 use Rattle.edit_ops.proofs.HeaderClasses.{headers_read}
-use Rattle.edit_ops.proofs.EachLive.{tree_each, live_tree_each, above_tree_each}
+use Rattle.edit_ops.proofs.EachLive.{tree_each, reached_each, above_tree_each}
 use Rattle.edit_ops.proofs.TextTurns.{Turns, turned_reads, whole_turned, whole_span}
-use Rattle.edit_ops.proofs.LivePuts.{field_of, IsPut, turns_as, forest_turned, fields_put}
+use Rattle.edit_ops.proofs.LivePuts.{field_of, IsPut, turns_as, reach_turned, fields_put}
 use Rattle.edit_ops.proofs.HeaderPuts.{IsAbovePut, above_fields_put}
 use Rattle.edit_ops.proofs.KeptRules.{Keeps}
 use Rattle.edit_ops.proofs.TreesExchanged.{above_turned}
@@ -44,40 +44,40 @@ pub all_both : {X : Type 0} (P Q R : X → Type 0) → ((x : X) → P x → Q x 
 all_both P Q R step [] p q = tt
 all_both P Q R step (x ∷ xs) p q = (step x p.0 q.0, all_both P Q R step xs p.1 q.1)
 
--- the puts of an edit of the part of element n: they turn the bytes of the drawing into those of the altered one,
--- are what these have in the fields of the edit, and are right for each header and each live element
+-- the puts of a row into the part of element n: they turn the bytes of the drawing into those of the altered one,
+-- are what these have in its fields, and are right for each header and each element that it reaches
 pub record IsWritten (dim : ℕ) (es : List Element) (r : Rule) (n : ℕ) : Type 0 where
   pub turned : Turns 0 (spelling es) (part_puts r es n) (spelling (flat (altered r es n)))
   pub fields : map field_of (part_puts r es n) ≡ part_fields r es n
   pub puts : part_puts r es n ≡ filled (spelling (flat (altered r es n))) (part_fields r es n)
-  pub each : AllByRecursion (λ v. IsPut dim r v.element) (live_tree es n)
+  pub each : AllByRecursion (λ v. IsPut dim r v.element) (reached r.reach es n)
   pub each_above : AllByRecursion (λ v. IsAbovePut dim r (slice_get es n) v.element) (above_tree es n)
 
 module _ (dim : ℕ) (es : List Element) (r : Rule) (Ready : Element → Type 0) (keeps : Keeps dim r Ready)
     (each : AllByRecursion (IsWellFormed dim) es) where
-  -- the live elements of a part are well formed
-  good_live : (n : ℕ) → AllByRecursion (λ v. IsWellFormed dim v.element) (live_tree es n)
-  good_live n = live_tree_each (IsWellFormed dim) es n each
+  -- the elements that it reaches in a part are well formed
+  good_live : (n : ℕ) → AllByRecursion (λ v. IsWellFormed dim v.element) (reached r.reach es n)
+  good_live n = reached_each (IsWellFormed dim) r.reach es n each
 
   -- and so are all elements of trees
   good_trees : AllByRecursion (IsWellFormed dim) (flat (forest row_of es))
   good_trees = subst (AllByRecursion (IsWellFormed dim)) (sym (flat-forest row_of es)) each
 
-  -- what is put into the live elements of a part against which nothing stands
-  pub live_put : (n : ℕ) → AllByRecursion (λ v. Ready v.element) (live_tree es n) → AllByRecursion (λ v. IsPut dim r v.element) (live_tree es n)
+  -- what is put into those of a part, where nothing stands against them
+  pub live_put : (n : ℕ) → AllByRecursion (λ v. Ready v.element) (reached r.reach es n) → AllByRecursion (λ v. IsPut dim r v.element) (reached r.reach es n)
   live_put n ready =
       all_both (λ v. IsWellFormed dim v.element) (λ v. Ready v.element) (λ v. IsPut dim r v.element)
-      (λ v good able. keeps.live v.element good able) (live_tree es n) (good_live n) ready
+      (λ v good able. keeps.live v.element good able) (reached r.reach es n) (good_live n) ready
 
   -- the part as a text of its own is turned into the changed part
-  pub part_turned : (n : ℕ) → AllByRecursion (λ v. Ready v.element) (live_tree es n)
-      → Turns (offset_of es n) (spelling (flat (tree_at n (forest row_of es)))) (live_puts r (live_tree es n))
-      (spelling (flat (live_map (λ member. member.deleted) r.made (tree_at n (forest row_of es)))))
-  part_turned n ready = forest_turned dim r Ready keeps.live (tree_at n (forest row_of es)) n (offset_of es n)
+  pub part_turned : (n : ℕ) → AllByRecursion (λ v. Ready v.element) (reached r.reach es n)
+      → Turns (offset_of es n) (spelling (flat (tree_at n (forest row_of es)))) (live_puts r (reached r.reach es n))
+      (spelling (flat (reach_map r.reach r.made (tree_at n (forest row_of es)))))
+  part_turned n ready = reach_turned dim r Ready keeps.live r.reach (tree_at n (forest row_of es)) n (offset_of es n)
       (tree_each (IsWellFormed dim) n (forest row_of es) good_trees) ready
 
   module _ (n : ℕ) (known : n < length es) (x : Element) (there : slice_get es n ≡ Some x) (able : Ready x)
-      (ready : AllByRecursion (λ v. Ready v.element) (live_tree es n)) where
+      (ready : AllByRecursion (λ v. Ready v.element) (reached r.reach es n)) where
     -- what is put into each header is right
     above_all : AllByRecursion (λ v. IsAbovePut dim r (slice_get es n) v.element) (above_tree es n)
     above_all =
@@ -98,8 +98,8 @@ module _ (dim : ℕ) (es : List Element) (r : Rule) (Ready : Element → Type 0)
         (λ v. Turns v.place (spell v.element) (r.over_puts (slice_get es n) v.place v.element)
         (spell (r.above (slice_get es n) v.element)))
         (λ v is. is.turned v.place) (above_tree es n) above_all in
-        let all = above_turned (r.above (slice_get es n)) (live_map (λ member. member.deleted) r.made)
-        (r.over_puts (slice_get es n)) (live_puts r (live_tree es n))
+        let all = above_turned (r.above (slice_get es n)) (reach_map r.reach r.made)
+        (r.over_puts (slice_get es n)) (live_puts r (reached r.reach es n))
         n 0 0 (offset_of es n) (forest row_of es) (omega arith) at heads (part_turned n ready) in
         turns_as 0 _ _ _ _ _ _ (ap spelling (flat-forest row_of es)) refl refl all
 
@@ -110,9 +110,9 @@ module _ (dim : ℕ) (es : List Element) (r : Rule) (Ready : Element → Type 0)
         let made : List ℕ = spelling (flat (altered r es n)) in
         let turned = drawing_turned in
         let fields : map field_of (part_puts r es n) ≡ part_fields r es n =
-        map-append field_of (above_puts r (slice_get es n) (above_tree es n)) (live_puts r (live_tree es n))
-        ∙ ap (λ (fs : List Field). fs ++ map field_of (live_puts r (live_tree es n))) (above_fields_put dim r (slice_get es n) (above_tree es n) above_all)
-        ∙ ap (λ (fs : List Field). above_fields r (above_tree es n) ++ fs) (fields_put dim r Ready keeps.live (live_tree es n) (good_live n) ready) in
+        map-append field_of (above_puts r (slice_get es n) (above_tree es n)) (live_puts r (reached r.reach es n))
+        ∙ ap (λ (fs : List Field). fs ++ map field_of (live_puts r (reached r.reach es n))) (above_fields_put dim r (slice_get es n) (above_tree es n) above_all)
+        ∙ ap (λ (fs : List Field). above_fields r (above_tree es n) ++ fs) (fields_put dim r Ready keeps.live (reached r.reach es n) (good_live n) ready) in
         let reads : map (old_of made) puts ≡ puts =
         turned_reads (spelling es) made puts (whole_span (spelling es) made puts turned) (whole_turned (spelling es) made puts turned) in
         record {

@@ -1,6 +1,6 @@
 -- The fields of an edit are apart, and each lies in its element, and all in the tree that holds the edit's element.
 use Rattle.std.proofs.Common.{◌≡◌, ℕ, ◌+◌, ◌≤◌, List, [], ◌∷◌, length, map, refl, sym, ap, ◌∙◌, subst, arith}
-use Rattle.std.specs.Prelude.{All, Some, slice_get}
+use Rattle.std.specs.Prelude.{All, Some, None, slice_get}
 use Rattle.std.specs.List.{AllByRecursion, flat_map}
 use Rattle.std.proofs.lemmas.List.Elements.{All-from_recursion}
 use Rattle.patch_bytes.specs.Puts.{Put, Span}
@@ -9,13 +9,14 @@ use Rattle.dgn_drawing.specs.declared.edit.Edit.{Edit}
 use Rattle.dgn_drawing.specs.declared.edit.Edit.TheVariants as edit
 use Rattle.dgn_drawing.specs.Element.{Element}
 use Rattle.dgn_drawing.specs.Spelling.{spell, spelling, size_of}
+use Rattle.dgn_drawing.specs.WellFormed.{IsDimension}
 use Rattle.dgn_drawing.specs.Rows.{row_of}
 use Rattle.dgn_drawing.specs.Nesting.{flat}
 use Rattle.dgn_drawing.specs.Numbering.{root_of, span_of}
 use Rattle.dgn_drawing.specs.Opening.{Opens}
 use Rattle.elem_index.specs.Offsets.{offset_of}
-use Rattle.edit_ops.specs.Trees.{Live, live_tree, above_tree}
-use Rattle.edit_ops.specs.Causes.{target_of}
+use Rattle.edit_ops.specs.Trees.{Live, reached, above_tree}
+use Rattle.edit_ops.specs.Causes.{target_of, cause_of}
 use Rattle.edit_ops.specs.Applying.{Done, apply, altered, IsEdit}
 use Rattle.edit_ops.specs.Fields.{Field, Rise}
 use Rattle.edit_ops.specs.EditedFields.{above_fields, live_fields, part_fields, edited_fields}
@@ -29,8 +30,9 @@ use Rattle.edit_ops.proofs.HeaderPuts.{IsAbovePut}
 use Rattle.edit_ops.proofs.PutFields.{fields_rise}
 use Rattle.edit_ops.proofs.EditedBytes.{IsWritten, all_so}
 use Rattle.edit_ops.proofs.AcceptedEdit.{done_is}
-use Rattle.edit_ops.proofs.EditInPlace.{IsInPlace, in_place, named_written}
-use Rattle.edit_ops.proofs.TreeSpread.{LiesBetween, LieInTree, lie_in_tree}
+use Rattle.edit_ops.proofs.EditsLeft.{named_target, named_written}
+use Rattle.edit_ops.proofs.TreeSpread.{LiesBetween, LieInTree, lie_in_tree, reached_lie}
+use Rattle.elem_index.proofs.Places.{opened_axes}
 
 -- a field lies between two places
 abbrev LiesIn : ℕ → ℕ → Field → Type 0
@@ -82,18 +84,18 @@ lie_in fields vs inside =
     (all_so (LieInside fields) (λ (v : Live). All (LiesIn v.place (v.place + size_of v.element)) (fields v))
     (λ v is. All-from_recursion (LiesIn v.place (v.place + size_of v.element)) (fields v) is) vs inside)
 
--- the fields of the live elements of a part lie in these, and those of the headers above in those
+-- the fields of the elements that a row reaches lie in these, and those of the headers above in those
 live_inside : (dim : ℕ) (es : List Element) (r : Rule) (n : ℕ) → IsWritten dim es r n
-    → AllByRecursion (LieInside (λ v. r.fields v.place v.element)) (live_tree es n)
+    → AllByRecursion (LieInside (λ v. r.fields v.place v.element)) (reached r.reach es n)
 live_inside dim es r n wrote =
     all_so (λ v. IsPut dim r v.element) (LieInside (λ v. r.fields v.place v.element))
     (λ v is. turned_inside v (r.puts v.place v.element) (spell (r.made v.element)) (r.fields v.place v.element) (is.turned v.place) (is.fields v.place))
-    (live_tree es n) wrote.each
+    (reached r.reach es n) wrote.each
 
-above_inside : (dim : ℕ) (es : List Element) (r : Rule) (n : ℕ) → IsWritten dim es r n → AllByRecursion (LieInside (λ v. r.over v.place)) (above_tree es n)
+above_inside : (dim : ℕ) (es : List Element) (r : Rule) (n : ℕ) → IsWritten dim es r n → AllByRecursion (LieInside (λ v. r.over v.place v.element)) (above_tree es n)
 above_inside dim es r n wrote =
-    all_so (λ v. IsAbovePut dim r (slice_get es n) v.element) (LieInside (λ v. r.over v.place))
-    (λ v is. turned_inside v (r.over_puts (slice_get es n) v.place v.element) (spell (r.above (slice_get es n) v.element)) (r.over v.place)
+    all_so (λ v. IsAbovePut dim r (slice_get es n) v.element) (LieInside (λ v. r.over v.place v.element))
+    (λ v is. turned_inside v (r.over_puts (slice_get es n) v.place v.element) (spell (r.above (slice_get es n) v.element)) (r.over v.place v.element)
     (is.turned v.place) (is.fields v.place))
     (above_tree es n) wrote.each_above
 
@@ -109,9 +111,9 @@ part_in_tree : (dim : ℕ) (es : List Element) (r : Rule) (n root end : ℕ) →
     → Rise (offset_of es root) (part_fields r es n) (offset_of es end)
 part_in_tree dim es r n root end wrote lie =
     rise_between (offset_of es root) (offset_of es end) (length (spelling es)) (part_fields r es n) 0 lie.rises (part_rises dim es r n wrote)
-    (each_both (LiesIn (offset_of es root) (offset_of es end)) (above_fields r (above_tree es n)) (live_fields r (live_tree es n))
-    (fields_spread (offset_of es root) (offset_of es end) (λ v. r.over v.place) (above_tree es n) lie.above (above_inside dim es r n wrote))
-    (fields_spread (offset_of es root) (offset_of es end) (λ v. r.fields v.place v.element) (live_tree es n) lie.live (live_inside dim es r n wrote)))
+    (each_both (LiesIn (offset_of es root) (offset_of es end)) (above_fields r (above_tree es n)) (live_fields r (reached r.reach es n))
+    (fields_spread (offset_of es root) (offset_of es end) (λ v. r.over v.place v.element) (above_tree es n) lie.above (above_inside dim es r n wrote))
+    (fields_spread (offset_of es root) (offset_of es end) (λ v. r.fields v.place v.element) (reached r.reach es n) (reached_lie r.reach es n root end lie) (live_inside dim es r n wrote)))
 
 -- an edit names one element
 one_target : (e : Edit) (n m : ℕ) → target_of e ≡ Some n → target_of e ≡ Some m → n ≡ m
@@ -123,26 +125,32 @@ module _ (f : List ℕ) (dim : ℕ) (es : List Element) (t : List ℕ) (rest : �
   abbrev row : Rule
   row = rule_of dim e
 
+  none : cause_of dim es rest e ≡ None
+  none = (done_is dim es rest e made done).0
+
+  axes : IsDimension dim
+  axes = opened_axes f dim es t opens
+
   wrote : (n : ℕ) → target_of e ≡ Some n → IsWritten dim es row n
-  wrote n named = (named_written f dim es t rest e n fits opens named (done_is dim es rest e made done).0).1
+  wrote n named = named_written dim axes es opens.each opens.first rest e fits none n named
 
   lies : (n root end : ℕ) → target_of e ≡ Some n → root_of row_of es n ≡ Some root → span_of row_of es root ≡ Some (root, end) → LieInTree es n root end
   lies n root end named root_is span =
-      lie_in_tree es n root end (named_written f dim es t rest e n fits opens named (done_is dim es rest e made done).0).0.known root_is span
+      lie_in_tree es n root end (named_target dim axes es opens.each opens.first rest e fits none n named).known root_is span
 
-  within : (n : ℕ) → target_of e ≡ Some n → LieIn (λ v. row.fields v.place v.element) (live_tree es n)
-  within n named = lie_in (λ v. row.fields v.place v.element) (live_tree es n) (live_inside dim es row n (wrote n named))
+  within : (n : ℕ) → target_of e ≡ Some n → LieIn (λ v. row.fields v.place v.element) (reached row.reach es n)
+  within n named = lie_in (λ v. row.fields v.place v.element) (reached row.reach es n) (live_inside dim es row n (wrote n named))
 
-  above : (n : ℕ) → target_of e ≡ Some n → LieIn (λ v. row.over v.place) (above_tree es n)
-  above n named = lie_in (λ v. row.over v.place) (above_tree es n) (above_inside dim es row n (wrote n named))
+  above : (n : ℕ) → target_of e ≡ Some n → LieIn (λ v. row.over v.place v.element) (above_tree es n)
+  above n named = lie_in (λ v. row.over v.place v.element) (above_tree es n) (above_inside dim es row n (wrote n named))
 
   -- the fields of an edit in its place
-  apart_in_place : (n : ℕ) → IsInPlace dim es e n → FieldsLieApart dim es e
-  apart_in_place n here = record {
-    rise = subst (λ (fs : List Field). Rise 0 fs (length (spelling es))) (sym here.fields) (part_rises dim es row n (wrote n here.named));
+  apart_in_place : (n : ℕ) → target_of e ≡ Some n → edited_fields dim es e ≡ part_fields row es n → FieldsLieApart dim es e
+  apart_in_place n here fields = record {
+    rise = subst (λ (fs : List Field). Rise 0 fs (length (spelling es))) (sym fields) (part_rises dim es row n (wrote n here));
     in_tree = λ m root end named root_is span.
-        let same : m ≡ n = one_target e m n named here.named in
-        subst (λ (fs : List Field). Rise (offset_of es root) fs (offset_of es end)) (ap (part_fields row es) same ∙ sym here.fields)
+        let same : m ≡ n = one_target e m n named here in
+        subst (λ (fs : List Field). Rise (offset_of es root) fs (offset_of es end)) (ap (part_fields row es) same ∙ sym fields)
         (part_in_tree dim es row m root end (wrote m named) (lies m root end named root_is span));
     within = within;
     above = above;
@@ -150,21 +158,18 @@ module _ (f : List ℕ) (dim : ℕ) (es : List Element) (t : List ℕ) (rest : �
 
   -- those of one that writes none
   apart_none : edited_fields dim es e ≡ [] → FieldsLieApart dim es e
-  apart_none none = record {
-    rise = subst (λ (fs : List Field). Rise 0 fs (length (spelling es))) (sym none) (omega arith);
+  apart_none none_written = record {
+    rise = subst (λ (fs : List Field). Rise 0 fs (length (spelling es))) (sym none_written) (omega arith);
     in_tree = λ m root end named root_is span.
-        subst (λ (fs : List Field). Rise (offset_of es root) fs (offset_of es end)) (sym none) (lies m root end named root_is span).rises;
+        subst (λ (fs : List Field). Rise (offset_of es root) fs (offset_of es end)) (sym none_written) (lies m root end named root_is span).rises;
     within = within;
     above = above;
   }
 
 -- the fields of an edit that is done rise, in the tree of its element too, and each lies in its element
 pub fields_apart : EditedFieldsAreApart
-fields_apart f dim es t rest (edit.Move n by) made fits opens done =
-    apart_in_place f dim es t rest (edit.Move n by) made fits opens done n (in_place dim es (edit.Move n by) n refl tt)
+fields_apart f dim es t rest (edit.Move n by) made fits opens done = apart_in_place f dim es t rest (edit.Move n by) made fits opens done n refl refl
 fields_apart f dim es t rest (edit.Copy n by) made fits opens done = apart_none f dim es t rest (edit.Copy n by) made fits opens done refl
-fields_apart f dim es t rest (edit.Sym n change) made fits opens done =
-    apart_in_place f dim es t rest (edit.Sym n change) made fits opens done n (in_place dim es (edit.Sym n change) n refl tt)
-fields_apart f dim es t rest (edit.Delete n) made fits opens done =
-    apart_in_place f dim es t rest (edit.Delete n) made fits opens done n (in_place dim es (edit.Delete n) n refl tt)
+fields_apart f dim es t rest (edit.Sym n change) made fits opens done = apart_in_place f dim es t rest (edit.Sym n change) made fits opens done n refl refl
+fields_apart f dim es t rest (edit.Delete n) made fits opens done = apart_in_place f dim es t rest (edit.Delete n) made fits opens done n refl refl
 fields_apart f dim es t rest (edit.Append new) made fits opens done = apart_none f dim es t rest (edit.Append new) made fits opens done refl

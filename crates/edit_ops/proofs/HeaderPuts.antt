@@ -67,7 +67,7 @@ pub record IsAbovePut (dim : ℕ) (r : Rule) (head : Option Element) (h : Elemen
   pub turned : (p : ℕ) → Turns p (spell h) (r.over_puts head p h) (spell (r.above head h))
   pub good : IsWellFormed dim (r.above head h)
   pub row : row_of (r.above head h) ≡ row_of h
-  pub fields : (p : ℕ) → map field_of (r.over_puts head p h) ≡ r.over p
+  pub fields : (p : ℕ) → map field_of (r.over_puts head p h) ≡ r.over p h
 
 -- an element with spots isn't silent
 spots_read : (c : Class) → has_spots c ≡ true → is_silent c ≡ false
@@ -112,4 +112,4 @@ above_fields_put dim r head [] puts = refl
 above_fields_put dim r head (v ∷ vs) puts =
     map-append field_of (r.over_puts head v.place v.element) (above_puts r head vs)
     ∙ ap (λ (fs : List Field). fs ++ map field_of (above_puts r head vs)) (puts.0.fields v.place)
-    ∙ ap (λ (fs : List Field). r.over v.place ++ fs) (above_fields_put dim r head vs puts.1)
+    ∙ ap (λ (fs : List Field). r.over v.place v.element ++ fs) (above_fields_put dim r head vs puts.1)

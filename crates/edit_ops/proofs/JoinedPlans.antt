@@ -4,16 +4,12 @@ use Rattle.std.proofs.Common.{◌≡◌, ℕ, ◌+◌, ◌<◌, ◌≤◌, List,
 use Rattle.std.proofs.Common.{append_assoc, length-append}
 use Rattle.std.specs.Prelude.{Option, Some, None}
 use Rattle.std.specs.Option.{option_or}
-use Rattle.std.proofs.lemmas.Grind.{flat_map-append}
-use Rattle.std.proofs.lemmas.List.{append-nil, drop_all, drop_at, length-drop}
+use Rattle.std.proofs.lemmas.List.{append-nil, drop_all, length-drop}
 use Rattle.patch_bytes.specs.Puts.{Put}
 use Rattle.dgn_drawing.specs.declared.edit.Edit.{Edit}
-use Rattle.dgn_drawing.specs.declared.edit.Edit.TheVariants as edit
 use Rattle.dgn_drawing.specs.declared.fence_edit.FenceEdit.{FenceEdit}
-use Rattle.dgn_drawing.specs.declared.fence_edit.FenceEdit.TheVariants as fence
-use Rattle.dgn_drawing.specs.Values.{Displacement}
 use Rattle.dgn_drawing.specs.Element.{Element}
-use Rattle.dgn_drawing.specs.Spelling.{spell, spelling}
+use Rattle.dgn_drawing.specs.Spelling.{spelling}
 use Rattle.dgn_drawing.specs.Nesting.{flat}
 use Rattle.dgn_drawing.specs.Opening.{Opens}
 use Rattle.edit_ops.specs.declared.causes.cause.Cause.{Cause}
@@ -21,19 +17,16 @@ use Rattle.edit_ops.specs.declared.causes.edit_fault.EditFault.{EditFault}
 use Rattle.edit_ops.specs.declared.causes.edit_fault.EditFault.TheVariants as faults
 use Rattle.edit_ops.specs.declared.types.plan.Plan.{Plan}
 use Rattle.edit_ops.specs.Causes.{cause_of, bytes_appended}
-use Rattle.edit_ops.specs.Applying.{Refused, applied_unless, apply, copied, changed_forest, IsEdit}
+use Rattle.edit_ops.specs.Applying.{Refused, applied_unless, apply, changed_forest, IsEdit}
 use Rattle.edit_ops.specs.Fields.{filled}
-use Rattle.edit_ops.specs.EditedFields.{part_fields}
-use Rattle.edit_ops.specs.Rules.{rule_of, displacing}
-use Rattle.edit_ops.specs.Written.{part_puts}
+use Rattle.edit_ops.specs.EditedFields.{edited_fields}
 use Rattle.edit_ops.specs.Planned.{IsPlan, IsFencePlan, IsRefused}
 use Rattle.edit_ops.specs.Fenced.{edit_at, edits_at, cause_of_all, fenced_forest, apply_all, AreRoots, IsFenceEdit}
 use Rattle.edit_ops.proofs.AcceptedEdit.{done_is}
-use Rattle.edit_ops.proofs.CopyEdits.{copy_leaves}
-use Rattle.edit_ops.proofs.EditInPlace.{IsInPlace, in_place, done_written, done_altered, long_in_place}
-use Rattle.edit_ops.proofs.EditLaws.{changes_fields}
-use Rattle.edit_ops.proofs.RootsTogether.{own_puts, own_bytes, all_puts, all_bytes, fenced}
-use Rattle.edit_ops.proofs.FenceLaws.{root_short, left_planned}
+use Rattle.edit_ops.proofs.EditsLeft.{own_puts, own_bytes, edit_short}
+use Rattle.edit_ops.proofs.EditLaws.{own_long, own_fill, own_behind}
+use Rattle.edit_ops.proofs.RootsTogether.{all_puts, all_bytes, root_fits, fenced}
+use Rattle.edit_ops.proofs.FenceLaws.{fenced_plan}
 use Rattle.dgn_drawing.specs.declared.limits.TheConstants.{MOST_DESIGN}
 
 -- the plan of one root: nothing refuses it, and it is what the edit puts and what it appends
@@ -43,49 +36,21 @@ pub record IsOwn (dim : ℕ) (es : List Element) (rest : ℕ) (x : Edit) (p : Pl
   pub bytes : p.append ≡ own_bytes dim es x
   pub long : length p.append ≡ bytes_appended es x
 
-module _ (f : List ℕ) (dim : ℕ) (es : List Element) (t : List ℕ) (opens : Opens f dim es t) (rest : ℕ) where
-  -- it appends as many bytes as the result is longer
-  own_long : (x : Edit) (p : Plan) → IsEdit x → (is : IsPlan dim es rest x p) → length p.append ≡ bytes_appended es x
-  own_long x p fits is =
-      let long = (changes_fields f dim es t rest x is.made fits opens is.done).long in
-      let behind = length-drop (length (spelling es)) (spelling is.made) in
-      let append = ap (length {A = ℕ}) is.append in
-      omega arith
-
-  -- that of an edit in its place
-  own_in_place : (x : Edit) (n : ℕ) (p : Plan) → IsEdit x → IsInPlace dim es x n → own_puts dim es x ≡ part_puts (rule_of dim x) es n → own_bytes dim es x ≡ []
-      → IsPlan dim es rest x p
-      → IsOwn dim es rest x p
-  own_in_place x n p fits here puts none is =
-      let wrote = (done_written f dim es t rest x n fits opens here is.made is.done).1 in
-      let made = done_altered f dim es t rest x n fits opens here is.made is.done in
-      let long = long_in_place f dim es t rest x n fits opens here is.made is.done in
-      record {
-        none = (done_is dim es rest x is.made is.done).0;
-        puts = is.patches ∙ ap (filled (spelling is.made)) here.fields
-            ∙ ap (λ (l : List Element). filled (spelling l) (part_fields (rule_of dim x) es n)) made ∙ sym wrote.puts ∙ sym puts;
-        bytes = is.append ∙ drop_all (length (spelling es)) (spelling is.made) (omega arith) ∙ sym none;
-        long = own_long x p fits is;
-      }
-
-  -- that of a copy
-  own_copy : (n : ℕ) (by : Displacement) (p : Plan) → IsEdit (edit.Copy n by) → IsPlan dim es rest (edit.Copy n by) p → IsOwn dim es rest (edit.Copy n by) p
-  own_copy n by p fits is =
-      let copy : List Element = flat (copied (displacing dim by) es n) in
-      let left : is.made ≡ es ++ copy = (done_is dim es rest (edit.Copy n by) is.made is.done).1 ∙ copy_leaves dim es n by in
-      record {
-        none = (done_is dim es rest (edit.Copy n by) is.made is.done).0;
-        puts = is.patches;
-        bytes = is.append ∙ ap (λ (l : List Element). drop (length (spelling es)) (spelling l)) left
-            ∙ ap (drop (length (spelling es))) (flat_map-append spell es copy) ∙ drop_at (spelling es) (spelling copy) (length (spelling es)) refl;
-        long = own_long (edit.Copy n by) p fits is;
-      }
-
-  pub root_own : (e : FenceEdit) (n : ℕ) (p : Plan) → IsFenceEdit e → IsPlan dim es rest (edit_at e n) p → IsOwn dim es rest (edit_at e n) p
-  root_own (fence.Move by) n p fits is = own_in_place (edit.Move n by) n p fits (in_place dim es (edit.Move n by) n refl tt) refl refl is
-  root_own (fence.Copy by) n p fits is = own_copy n by p fits is
-  root_own (fence.Sym change) n p fits is = own_in_place (edit.Sym n change) n p fits (in_place dim es (edit.Sym n change) n refl tt) refl refl is
-  root_own fence.Delete n p fits is = own_in_place (edit.Delete n) n p fits (in_place dim es (edit.Delete n) n refl tt) refl refl is
+-- it is the plan of an edit
+plan_own : (f : List ℕ) (dim : ℕ) (es : List Element) (t : List ℕ) → Opens f dim es t → (rest : ℕ) (x : Edit) (p : Plan) → IsEdit x
+    → IsPlan dim es rest x p → IsOwn dim es rest x p
+plan_own f dim es t opens rest x p fits is =
+    let both = done_is dim es rest x is.made is.done in
+    let behind : drop (length (spelling es)) (spelling is.made) ≡ own_bytes dim es x =
+    ap (λ (l : List Element). drop (length (spelling es)) (spelling l)) both.1 ∙ own_behind f dim es t rest x fits opens both.0 in
+    let long : length (spelling is.made) ≡ length (spelling es) + bytes_appended es x =
+    ap (λ (l : List Element). length (spelling l)) both.1 ∙ own_long f dim es t rest x fits opens both.0 in
+    record {
+      none = both.0;
+      puts = is.patches ∙ ap (λ (l : List Element). filled (spelling l) (edited_fields dim es x)) both.1 ∙ sym (own_fill f dim es t rest x fits opens both.0);
+      bytes = is.append ∙ behind;
+      long = omega (arith, ap (length {A = ℕ}) is.append, length-drop (length (spelling es)) (spelling is.made), long);
+    }
 
 -- the next of some roots, and those behind it
 next_left : (ns : List ℕ) (i : ℕ) → i < length ns → drop i ns ≡ get_or ns i 0 ∷ drop (i + 1) ns
@@ -112,7 +77,7 @@ module _ (dim : ℕ) (es : List Element) (tail : ℕ) (e : FenceEdit) (ns : List
       let both = length-append append p.append in
       let long = own.long in
       let rest : tail + length (append ++ p.append) ≡ tail + length append + bytes_appended es (edit_at e n) = omega arith in
-      let short = root_short dim es (tail + length append) e n own.none joined.room in
+      let short = edit_short dim es (tail + length append) (edit_at e n) own.none joined.room in
       record {
         room = omega arith;
         causes = ap (λ (k : ℕ). cause_of_all dim es k (edits_at e left)) rest
@@ -143,7 +108,7 @@ module _ (dim : ℕ) (es : List Element) (tail : ℕ) (e : FenceEdit) (ns : List
       → IsFencePlan dim es tail e ns p
   all_joined f t p fits some opens joined =
       let none : cause_of_all dim es tail (edits_at e ns) ≡ None = sym joined.causes in
-      left_planned f dim es t e ns opens (fenced f dim es t tail e ns fits some opens none) tail p none
+      fenced_plan dim es tail e ns p (fenced f dim es t tail e ns fits some opens none) none
       (sym (append-nil p.patches) ∙ joined.puts) (sym (append-nil p.append) ∙ joined.bytes)
 
   -- where the next root is, with so many bytes pending, so are all
@@ -163,7 +128,7 @@ module _ (dim : ℕ) (es : List Element) (tail : ℕ) (e : FenceEdit) (ns : List
   next_planned i patches append within pending p more_patches more_append so joined planned with_patches with_append =
       let n : ℕ = get_or ns i 0 in
       let own : IsOwn dim es (tail + length append) (edit_at e n) p =
-      root_own f dim es t opens (tail + length append) e n p fits (subst (λ (k : ℕ). IsPlan dim es (tail + k) (edit_at e n) p) so planned) in
+      plan_own f dim es t opens (tail + length append) (edit_at e n) p (root_fits e n fits) (subst (λ (k : ℕ). IsPlan dim es (tail + k) (edit_at e n) p) so planned) in
       subst (λ (ps : List Put). AreJoined dim es tail e ns (drop (i + 1) ns) ps more_append) (sym with_patches)
       (subst (λ (b : List ℕ). AreJoined dim es tail e ns (drop (i + 1) ns) (patches ++ p.patches) b) (sym with_append)
       (next_joined dim es tail e ns n (drop (i + 1) ns) patches append p

@@ -1,7 +1,9 @@
 pub mod NumbersRise
 pub mod AppendedElements
 pub mod CopyEdits
-pub mod EditInPlace
+pub mod WhatIsLeft
+pub mod PartChanged
+pub mod EditsLeft
 pub mod EditLaws
 pub mod FieldsRise
 pub mod LeastCause

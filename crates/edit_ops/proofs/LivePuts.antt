@@ -19,9 +19,10 @@ use Rattle.dgn_drawing.specs.SpotNumbers.{sum_at, number_bytes, displaced_put}
 use Rattle.dgn_drawing.specs.WellFormed.{IsDimension, IsWellFormed}
 use Rattle.dgn_drawing.specs.Changes.{look_changed, look_bytes, recolour, mark, shift, stays_on_plane}
 use Rattle.dgn_drawing.specs.Rows.{row_of}
-use Rattle.dgn_drawing.specs.Nesting.{Forest, NoTree, Tree, flat}
+use Rattle.dgn_drawing.specs.Numbering.{end_of}
+use Rattle.dgn_drawing.specs.Nesting.{Forest, NoTree, Tree, flat, forest_map}
 use Rattle.dgn_drawing.proofs.Looks.{looks_put}
-use Rattle.edit_ops.specs.Trees.{Live, live_map, live_from}
+use Rattle.edit_ops.specs.Trees.{Live, live_map, live_from, every_from, Reach, Living, Every, Head, reach_map, reached_from}
 use Rattle.edit_ops.specs.Applying.{IsEdit}
 use Rattle.edit_ops.specs.Fields.{Field, spot_fields}
 use Rattle.edit_ops.specs.EditedFields.{live_fields}
@@ -189,6 +190,38 @@ module _ (dim : ℕ) (r : Rule) (Ready : Element → Type 0) (put_right : (v : E
       let joined = turns_then p q _ _ _ _ _ _ (omega (arith, length-append (spell h) (spelling (flat below)))) above rest in
       turns_as p _ _ _ _ _ _ (spelled_tree h (flat below) (flat behind)) (sym (flat_map-append (λ (v : Live). r.puts v.place v.element) head last))
       (spelled_tree _ _ _) joined
+
+  -- the same of each of all their elements
+  every_turned : (f : Forest Element) (n p : ℕ) → AllByRecursion (IsWellFormed dim) (flat f)
+      → AllByRecursion (λ v. Ready v.element) (every_from n p f)
+      → Turns p (spelling (flat f)) (live_puts r (every_from n p f)) (spelling (flat (forest_map r.made f)))
+  every_turned NoTree n p good ready = turns_none p []
+  every_turned (Tree knot h below behind) n p good ready =
+      let q : ℕ = p + (size_of h + length (spelling (flat below))) in
+      let inside : List Live = every_from (n + 1) (p + size_of h) below in
+      let past : List Live = every_from (end_of n below) q behind in
+      let both = all_parts (IsWellFormed dim) (flat below) (flat behind) good.1 in
+      let parts = all_parts (λ (v : Live). Ready v.element) inside past ready.1 in
+      let above = turns_then p (p + size_of h) (spell h) (spelling (flat below)) (spell (r.made h)) (spelling (flat (forest_map r.made below)))
+      (r.puts p h) (live_puts r inside) refl ((put_right h good.0 ready.0).turned p) (every_turned below (n + 1) (p + size_of h) both.0 parts.0) in
+      let rest = every_turned behind (end_of n below) q both.1 parts.1 in
+      let joined = turns_then p q _ _ _ _ _ _ (omega (arith, length-append (spell h) (spelling (flat below)))) above rest in
+      turns_as p _ _ _ _ _ _ (spelled_tree h (flat below) (flat behind))
+      (append_assoc (r.puts p h) (live_puts r inside) (live_puts r past)
+      ∙ ap (λ (ps : List Put). r.puts p h ++ ps) (sym (flat_map-append (λ (v : Live). r.puts v.place v.element) inside past)))
+      (spelled_tree _ _ _) joined
+
+  -- so of each that the row reaches
+  pub reach_turned : (reach : Reach) (f : Forest Element) (n p : ℕ) → AllByRecursion (IsWellFormed dim) (flat f)
+      → AllByRecursion (λ v. Ready v.element) (reached_from reach n p f)
+      → Turns p (spelling (flat f)) (live_puts r (reached_from reach n p f)) (spelling (flat (reach_map reach r.made f)))
+  reach_turned Living f n p good ready = forest_turned f n p good ready
+  reach_turned Every f n p good ready = every_turned f n p good ready
+  reach_turned Head NoTree n p good ready = turns_none p []
+  reach_turned Head (Tree knot h below behind) n p good ready =
+      let rest : List ℕ = spelling (flat below ++ flat behind) in
+      turns_then p (p + size_of h) (spell h) rest (spell (r.made h)) rest (r.puts p h) [] refl ((put_right h good.0 ready.0).turned p)
+      (turns_none (p + size_of h) rest)
 
   -- what is put into live elements is laid over their fields
   pub fields_put : (vs : List Live) → AllByRecursion (λ v. IsWellFormed dim v.element) vs

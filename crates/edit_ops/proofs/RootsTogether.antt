@@ -11,27 +11,26 @@ use Rattle.dgn_drawing.specs.declared.fence_edit.FenceEdit.{FenceEdit}
 use Rattle.dgn_drawing.specs.declared.fence_edit.FenceEdit.TheVariants as fence
 use Rattle.dgn_drawing.specs.Values.{Displacement, LookChange, IsShift, IsLook}
 use Rattle.dgn_drawing.specs.Element.{Element}
-use Rattle.dgn_drawing.specs.Spelling.{spell, spelling}
+use Rattle.dgn_drawing.specs.Spelling.{spelling}
 use Rattle.dgn_drawing.specs.WellFormed.{IsDimension, IsWellFormed}
 use Rattle.dgn_drawing.specs.Rows.{row_of}
-use Rattle.dgn_drawing.specs.NewElements.{element_made}
-use Rattle.dgn_drawing.specs.Nesting.{Leaf, Whole, Forest, NoTree, Tree, flat, nest, forest, forest_map, joined, itself, BeginsFree}
+use Rattle.dgn_drawing.specs.Nesting.{Leaf, Whole, Forest, NoTree, Tree, flat, nest, forest, forest_map, joined, itself}
 use Rattle.dgn_drawing.specs.Shown.{roots}
 use Rattle.dgn_drawing.specs.Opening.{dimension, BeginsWithTcb, Opens}
 use Rattle.nest_tree.proofs.NestingSteps.{flat-forest}
 use Rattle.nest_tree.proofs.ByRows.{forest_rows, flat-map}
 use Rattle.nest_tree.proofs.SameTrees.{known}
-use Rattle.edit_ops.specs.Trees.{Live, live_map, live_tree, above_tree}
+use Rattle.edit_ops.specs.Trees.{Live, live_map, live_tree, above_tree, Reach, Living, reached}
 use Rattle.edit_ops.specs.Causes.{target_of, cause_of, bytes_appended}
 use Rattle.edit_ops.specs.Applying.{copied, IsEdit}
+use Rattle.edit_ops.specs.Fields.{Field}
 use Rattle.edit_ops.specs.EditedFields.{above_fields, live_fields, part_fields, edited_fields}
-use Rattle.edit_ops.specs.Rules.{Rule, rule_of, moving, displacing, recolouring, deleting}
+use Rattle.edit_ops.specs.Rules.{Rule, moving, displacing, recolouring, deleting}
 use Rattle.edit_ops.specs.Written.{above_puts, live_puts, part_puts, IsReady}
 use Rattle.edit_ops.specs.Fenced.{edit_at, edits_at, cause_of_all, chosen_map, roots_changed, copies, fenced_forest, fenced_fields, all_appended, AreRoots}
 use Rattle.edit_ops.specs.Fenced.{IsFenceEdit}
 use Rattle.edit_ops.proofs.PartPlace.{flat-joined}
 use Rattle.edit_ops.proofs.EachLive.{each_both, live_tree_each}
-use Rattle.edit_ops.proofs.TextTurns.{Turns, turns_none}
 use Rattle.edit_ops.proofs.LivePuts.{field_of, IsPut, turns_as, fields_put}
 use Rattle.edit_ops.proofs.KeptRules.{Keeps, edit_keeps}
 use Rattle.elem_index.proofs.Places.{opened_axes}
@@ -40,22 +39,9 @@ use Rattle.edit_ops.proofs.AcceptedEdit.{IsAccepted, accepted, none_both}
 use Rattle.edit_ops.proofs.FirstElement.{BeginsWith, begins_as}
 use Rattle.edit_ops.proofs.ListMembers.{is_one_of, each_chosen, roots_among, zero_apart}
 use Rattle.edit_ops.proofs.RootsChanged.{chosen_live, chosen_looks, chosen_each, chosen_turned, roots_live, roots_above}
+use Rattle.edit_ops.proofs.WhatIsLeft.{IsLeft, behind_left}
+use Rattle.edit_ops.proofs.EditsLeft.{own_puts, own_bytes}
 use Rattle.edit_ops.proofs.RootCopies.{copies_free, copies_spelled, copies_good, copies_long, copies_nest}
-
--- what an edit puts into the drawing, and what it appends
-abbrev pub own_puts : ℕ → List Element → Edit → List Put
-own_puts dim es (edit.Move n by) = part_puts (rule_of dim (edit.Move n by)) es n
-own_puts dim es (edit.Copy n by) = []
-own_puts dim es (edit.Sym n change) = part_puts (rule_of dim (edit.Sym n change)) es n
-own_puts dim es (edit.Delete n) = part_puts (rule_of dim (edit.Delete n)) es n
-own_puts dim es (edit.Append new) = []
-
-abbrev pub own_bytes : ℕ → List Element → Edit → List ℕ
-own_bytes dim es (edit.Move n by) = []
-own_bytes dim es (edit.Copy n by) = spelling (flat (copied (displacing dim by) es n))
-own_bytes dim es (edit.Sym n change) = []
-own_bytes dim es (edit.Delete n) = []
-own_bytes dim es (edit.Append new) = spell (element_made new)
 
 -- the edits of an edit of several roots put these, and append these
 abbrev pub all_puts : ℕ → List Element → List Edit → List Put
@@ -64,21 +50,12 @@ all_puts dim es edits = flat_map (own_puts dim es) edits
 abbrev pub all_bytes : ℕ → List Element → List Edit → List ℕ
 all_bytes dim es edits = flat_map (own_bytes dim es) edits
 
--- what it leaves: the elements as they are changed, and others behind them
+-- what it leaves, where `more` is what it appends
 pub record IsFenced (dim : ℕ) (es : List Element) (e : FenceEdit) (ns : List ℕ) : Type 0 where
-  pub base : List Element
   pub more : List Element
-  pub listed : flat (fenced_forest dim es e ns) ≡ base ++ more
-  pub turned : Turns 0 (spelling es) (all_puts dim es (edits_at e ns)) (spelling base)
-  pub fields : map field_of (all_puts dim es (edits_at e ns)) ≡ fenced_fields dim es e ns
-  pub rows : map row_of base ≡ map row_of es
-  pub nested : forest row_of (base ++ more) ≡ fenced_forest dim es e ns
-  pub good : AllByRecursion (IsWellFormed dim) base
-  pub good_more : AllByRecursion (IsWellFormed dim) more
-  pub begins : (t : List ℕ) → BeginsWithTcb base × (dimension (spelling base ++ t) ≡ dimension (spelling es ++ t))
-  pub free : BeginsFree row_of more
-  pub long : length (spelling more) ≡ all_appended es (edits_at e ns)
+  pub left : IsLeft dim es (all_puts dim es (edits_at e ns)) (fenced_fields dim es e ns) more (fenced_forest dim es e ns)
   pub bytes : spelling more ≡ all_bytes dim es (edits_at e ns)
+  pub long : length (spelling more) ≡ all_appended es (edits_at e ns)
 
 -- the edit of a root names it, and has the values of the edit of all
 pub root_named : (e : FenceEdit) (n : ℕ) → target_of (edit_at e n) ≡ Some n
@@ -130,6 +107,7 @@ none_appended es e (n ∷ ns) none = let here = none n in let more = none_append
 -- an edit of several roots changes them in their places by a row: a move, a change of the look or a deletion
 pub record AreInPlace (dim : ℕ) (es : List Element) (r : Rule) (Ready : Element → Type 0) (e : FenceEdit) : Type 0 where
   pub keeps : Keeps dim r Ready
+  pub reach : r.reach ≡ Living
   pub ready : (n : ℕ) → IsAccepted dim es (edit_at e n) n → AllByRecursion (λ v. Ready v.element) (live_tree es n)
   pub puts : (n : ℕ) → own_puts dim es (edit_at e n) ≡ part_puts r es n
   pub fields : (n : ℕ) → edited_fields dim es (edit_at e n) ≡ part_fields r es n
@@ -138,17 +116,20 @@ pub record AreInPlace (dim : ℕ) (es : List Element) (r : Rule) (Ready : Elemen
   pub trees : (ns : List ℕ) → fenced_forest dim es e ns ≡ roots_changed r.made es ns
 
 -- without headers above it, a part has the puts and the fields of its live elements alone
-module _ (es : List Element) (r : Rule) (n : ℕ) (none : above_tree es n ≡ []) where
+module _ (es : List Element) (r : Rule) (living : r.reach ≡ Living) (n : ℕ) (none : above_tree es n ≡ []) where
   puts_alone : part_puts r es n ≡ live_puts r (live_tree es n)
-  puts_alone = ap (λ (vs : List Live). above_puts r (slice_get es n) vs ++ live_puts r (live_tree es n)) none
+  puts_alone = ap (λ (vs : List Live). above_puts r (slice_get es n) vs ++ live_puts r (reached r.reach es n)) none
+      ∙ ap (λ (reach : Reach). live_puts r (reached reach es n)) living
 
   fields_alone : part_fields r es n ≡ live_fields r (live_tree es n)
-  fields_alone = ap (λ (vs : List Live). above_fields r vs ++ live_fields r (live_tree es n)) none
+  fields_alone = ap (λ (vs : List Live). above_fields r vs ++ live_fields r (reached r.reach es n)) none
+      ∙ ap (λ (reach : Reach). live_fields r (reached reach es n)) living
 
 module _ (dim : ℕ) (axes : IsDimension dim) (es : List Element) where
   moves_in_place : (by : Displacement) → IsShift by → AreInPlace dim es (moving dim by) (IsReady dim (edit.Move 0 by)) (fence.Move by)
   moves_in_place by fits = record {
     keeps = edit_keeps dim axes (edit.Move 0 by) fits;
+    reach = refl;
     ready = λ n able. able.able;
     puts = λ n. refl;
     fields = λ n. refl;
@@ -160,6 +141,7 @@ module _ (dim : ℕ) (axes : IsDimension dim) (es : List Element) where
   looks_in_place : (change : LookChange) → IsLook change → AreInPlace dim es (recolouring change) (IsReady dim (edit.Sym 0 change)) (fence.Sym change)
   looks_in_place change fits = record {
     keeps = edit_keeps dim axes (edit.Sym 0 change) fits;
+    reach = refl;
     ready = λ n able. able.able;
     puts = λ n. refl;
     fields = λ n. refl;
@@ -171,6 +153,7 @@ module _ (dim : ℕ) (axes : IsDimension dim) (es : List Element) where
   marks_in_place : AreInPlace dim es deleting (IsReady dim (edit.Delete 0)) fence.Delete
   marks_in_place = record {
     keeps = edit_keeps dim axes (edit.Delete 0) tt;
+    reach = refl;
     ready = λ n able. able.able;
     puts = λ n. refl;
     fields = λ n. refl;
@@ -234,14 +217,14 @@ module _ (dim : ℕ) (axes : IsDimension dim) (es : List Element) (each : AllByR
   puts_are =
       parts_listed e (own_puts dim es) (live_tree es) (λ v. r.puts v.place v.element) ns
       (all_so (λ n. above_tree es n ≡ []) (λ n. own_puts dim es (edit_at e n) ≡ live_puts r (live_tree es n))
-      (λ n none. here.puts n ∙ puts_alone es r n none) ns alone)
+      (λ n none. here.puts n ∙ puts_alone es r here.reach n none) ns alone)
       ∙ ap (live_puts r) live_are
 
   fields_are : fenced_fields dim es e ns ≡ live_fields r vs
   fields_are =
       parts_listed e (edited_fields dim es) (live_tree es) (λ v. r.fields v.place v.element) ns
       (all_so (λ n. above_tree es n ≡ []) (λ n. edited_fields dim es (edit_at e n) ≡ live_fields r (live_tree es n))
-      (λ n none. here.fields n ∙ fields_alone es r n none) ns alone)
+      (λ n none. here.fields n ∙ fields_alone es r here.reach n none) ns alone)
       ∙ ap (live_fields r) live_are
 
   -- the trees that it leaves, which have the rows of those that there were
@@ -266,21 +249,23 @@ module _ (dim : ℕ) (axes : IsDimension dim) (es : List Element) (each : AllByR
 
   pub in_place_fenced : IsFenced dim es e ns
   in_place_fenced = record {
-    base = flat changed;
     more = [];
-    listed = ap flat (here.trees ns) ∙ sym (append-nil (flat changed));
-    turned = turns_as 0 _ _ _ _ _ _ (ap spelling (flat-forest row_of es)) (sym puts_are) refl
-        (chosen_turned dim r Ready here.keeps.live (is_one_of ns) 0 0 (forest row_of es) good_trees ready);
-    fields = ap (map field_of) puts_are ∙ fields_put dim r Ready here.keeps.live vs good_live ready ∙ sym fields_are;
-    rows = rows_kept;
-    nested = ap (forest row_of) (append-nil (flat changed)) ∙ nested_so ∙ sym (here.trees ns);
-    good = chosen_each r.made (is_one_of ns) (IsWellFormed dim) 0 0 (forest row_of es) good_trees
-        (all_so (λ v. IsPut dim r v.element) (λ v. IsWellFormed dim (r.made v.element)) (λ v is. is.good) vs is_put);
-    good_more = tt;
-    begins = λ t. begins_so dim es r.made (is_one_of ns) t axes each first not_first;
-    free = tt;
-    long = sym (none_appended es e ns here.appended);
+    left = record {
+      base = flat changed;
+      listed = ap flat (here.trees ns) ∙ sym (append-nil (flat changed));
+      turned = turns_as 0 _ _ _ _ _ _ (ap spelling (flat-forest row_of es)) (sym puts_are) refl
+          (chosen_turned dim r Ready here.keeps.live (is_one_of ns) 0 0 (forest row_of es) good_trees ready);
+      laid = ap (map field_of) puts_are ∙ fields_put dim r Ready here.keeps.live vs good_live ready ∙ sym fields_are;
+      rows = rows_kept;
+      nested = ap (forest row_of) (append-nil (flat changed)) ∙ nested_so ∙ sym (here.trees ns);
+      good = chosen_each r.made (is_one_of ns) (IsWellFormed dim) 0 0 (forest row_of es) good_trees
+          (all_so (λ v. IsPut dim r v.element) (λ v. IsWellFormed dim (r.made v.element)) (λ v is. is.good) vs is_put);
+      good_more = tt;
+      begins = λ t. begins_so dim es r.made (is_one_of ns) t axes each first not_first;
+      free = tt;
+    };
     bytes = sym (none_listed e (own_bytes dim es) ns here.bytes);
+    long = sym (none_appended es e ns here.appended);
   }
 
 -- the bytes of copies are those of each
@@ -295,21 +280,17 @@ pub copies_fenced : (dim : ℕ) (es : List Element) (by : Displacement) → IsDi
 copies_fenced dim es by axes each first fits ns able =
     let none : all_puts dim es (edits_at (fence.Copy by) ns) ≡ [] = none_listed (fence.Copy by) (own_puts dim es) ns (λ n. refl) in
     let no_field : fenced_fields dim es (fence.Copy by) ns ≡ [] = none_listed (fence.Copy by) (edited_fields dim es) ns (λ n. refl) in
+    let more : List Element = flat (copies dim es (fence.Copy by) ns) in
+    let trees : Forest Element = fenced_forest dim es (fence.Copy by) ns in
+    let left : IsLeft dim es [] [] more trees = behind_left dim es more trees each first
+    (flat-joined (forest row_of es) (copies dim es (fence.Copy by) ns) ∙ ap (λ (l : List Element). l ++ more) (flat-forest row_of es))
+    (copies_nest dim es by axes fits each first ns able) (copies_good dim es by axes fits each first ns able) (copies_free dim es by ns) in
     record {
-      base = es;
-      more = flat (copies dim es (fence.Copy by) ns);
-      listed = flat-joined (forest row_of es) (copies dim es (fence.Copy by) ns)
-          ∙ ap (λ (l : List Element). l ++ flat (copies dim es (fence.Copy by) ns)) (flat-forest row_of es);
-      turned = subst (λ (ps : List Put). Turns 0 (spelling es) ps (spelling es)) (sym none) (turns_none 0 (spelling es));
-      fields = ap (map field_of) none ∙ sym no_field;
-      rows = refl;
-      nested = copies_nest dim es by axes fits each first ns able;
-      good = each;
-      good_more = copies_good dim es by axes fits each first ns able;
-      begins = λ t. (first, refl);
-      free = copies_free dim es by ns;
-      long = copies_long dim es by axes fits each first ns able;
+      more = more;
+      left = subst (λ (ps : List Put). IsLeft dim es ps (fenced_fields dim es (fence.Copy by) ns) more trees) (sym none)
+          (subst (λ (fs : List Field). IsLeft dim es [] fs more trees) (sym no_field) left);
       bytes = copies_spelled dim es by ns ∙ copied_bytes dim es by ns;
+      long = copies_long dim es by axes fits each first ns able;
     }
 
 -- an edit of several roots that isn't refused

@@ -14,7 +14,8 @@ use Rattle.nest_tree.proofs.NestingSteps.{flat-forest}
 use Rattle.nest_tree.proofs.ByRows.{forest_rows, flat-map}
 use Rattle.nest_tree.proofs.SameTrees.{known}
 use Rattle.elem_index.specs.Offsets.{offset_of}
-use Rattle.edit_ops.specs.Trees.{count_in, tree_at, exchange, live_map, Live, live_from, live_tree, above_from, above_tree}
+use Rattle.edit_ops.specs.Trees.{count_in, tree_at, exchange, live_map, Live, live_from, above_from, above_tree, every_from}
+use Rattle.edit_ops.specs.Trees.{Reach, Living, Every, Head, reach_map, reached_from, reached}
 use Rattle.edit_ops.proofs.PartPlace.{flat-joined}
 use Rattle.edit_ops.proofs.EachLive.{each_both, each_first, each_last, tree_each, live_parts}
 
@@ -142,43 +143,88 @@ module _ (change : Element → Element) where
             (flat (live_map (λ member. member.deleted) change behind)) inner outer,
       )
 
-module _ (es : List Element) (n : ℕ) (above change : Element → Element) where
-  -- the trees of a drawing with the live elements of one part, and the headers above it, changed
-  abbrev made : Forest Element
-  made = exchange above (live_map (λ member. member.deleted) change) n (forest row_of es)
+  -- the same of a change of all
+  every_looks : (n p : ℕ) (f : Forest Element) → AllByRecursion (λ (v : Live). row_of (change v.element) ≡ row_of v.element) (every_from n p f)
+      → forest_map row_of (forest_map change f) ≡ forest_map row_of f
+  every_looks n p NoTree kept = refl
+  every_looks n p (Tree knot e below behind) kept =
+      let Q : Live → Type 0 = λ v. row_of (change v.element) ≡ row_of v.element in
+      let inside : List Live = every_from (n + 1) (p + size_of e) below in
+      let past : List Live = every_from (end_of n below) (p + (size_of e + length (spelling (flat below)))) behind in
+      let inner = every_looks (n + 1) (p + size_of e) below (each_first Q inside past kept.1) in
+      let outer = every_looks (end_of n below) (p + (size_of e + length (spelling (flat below)))) behind (each_last Q inside past kept.1) in
+      ap (λ (r : Row). Tree knot r (forest_map row_of (forest_map change below)) (forest_map row_of (forest_map change behind))) kept.0
+      ∙ ap (λ (t : Forest Row). Tree knot (row_of e) t (forest_map row_of (forest_map change behind))) inner
+      ∙ ap (λ (t : Forest Row). Tree knot (row_of e) (forest_map row_of below) t) outer
 
-  -- a header, and a live element, keeps its row
+  every_map_each : (P : Element → Type 0) (n p : ℕ) (f : Forest Element) → AllByRecursion (λ (v : Live). P (change v.element)) (every_from n p f)
+      → AllByRecursion P (flat (forest_map change f))
+  every_map_each P n p NoTree those = tt
+  every_map_each P n p (Tree knot e below behind) those =
+      let Q : Live → Type 0 = λ v. P (change v.element) in
+      let inside : List Live = every_from (n + 1) (p + size_of e) below in
+      let past : List Live = every_from (end_of n below) (p + (size_of e + length (spelling (flat below)))) behind in (
+        those.0,
+        each_both P (flat (forest_map change below)) (flat (forest_map change behind))
+            (every_map_each P (n + 1) (p + size_of e) below (each_first Q inside past those.1))
+            (every_map_each P (end_of n below) (p + (size_of e + length (spelling (flat below)))) behind (each_last Q inside past those.1)),
+      )
+
+  -- so a change that keeps the row of each element that it reaches keeps the rows of the trees
+  pub reach_looks : (reach : Reach) (n p : ℕ) (f : Forest Element)
+      → AllByRecursion (λ (v : Live). row_of (change v.element) ≡ row_of v.element) (reached_from reach n p f)
+      → forest_map row_of (reach_map reach change f) ≡ forest_map row_of f
+  reach_looks Living n p f kept = live_looks n p f kept
+  reach_looks Every n p f kept = every_looks n p f kept
+  reach_looks Head n p NoTree kept = refl
+  reach_looks Head n p (Tree knot e below behind) kept = ap (λ (r : Row). Tree knot r (forest_map row_of below) (forest_map row_of behind)) kept.0
+
+  -- and what holds of each element, and of what becomes of each that it reaches, holds of each after the change
+  pub reach_map_each : (P : Element → Type 0) (reach : Reach) (n p : ℕ) (f : Forest Element) → AllByRecursion P (flat f)
+      → AllByRecursion (λ (v : Live). P (change v.element)) (reached_from reach n p f)
+      → AllByRecursion P (flat (reach_map reach change f))
+  reach_map_each P Living n p f each those = live_map_each P n p f each those
+  reach_map_each P Every n p f each those = every_map_each P n p f those
+  reach_map_each P Head n p NoTree each those = tt
+  reach_map_each P Head n p (Tree knot e below behind) each those = (those.0, each.1)
+
+module _ (es : List Element) (n : ℕ) (above change : Element → Element) (reach : Reach) where
+  -- the trees of a drawing with the elements of one part that a change reaches, and the headers above it, changed
+  abbrev made : Forest Element
+  made = exchange above (reach_map reach change) n (forest row_of es)
+
+  -- a header, and an element that is reached, keeps its row
   abbrev pub HeaderKept : Live → Type 0
   HeaderKept v = row_of (above v.element) ≡ row_of v.element
 
-  abbrev pub LiveKept : Live → Type 0
-  LiveKept v = row_of (change v.element) ≡ row_of v.element
+  abbrev pub ReachedKept : Live → Type 0
+  ReachedKept v = row_of (change v.element) ≡ row_of v.element
 
-  trees_kept : AllByRecursion HeaderKept (above_tree es n) → AllByRecursion LiveKept (live_tree es n)
-      → forest_map row_of (exchange above (live_map (λ member. member.deleted) change) n (forest row_of es)) ≡ forest_map row_of (forest row_of es)
+  trees_kept : AllByRecursion HeaderKept (above_tree es n) → AllByRecursion ReachedKept (reached reach es n)
+      → forest_map row_of (exchange above (reach_map reach change) n (forest row_of es)) ≡ forest_map row_of (forest row_of es)
   trees_kept heads kept =
-      exchange_looks above (live_map (λ member. member.deleted) change) row_of n 0 0 (forest row_of es) heads
-      (live_looks change n (offset_of es n) (tree_at n (forest row_of es)) kept)
+      exchange_looks above (reach_map reach change) row_of n 0 0 (forest row_of es) heads
+      (reach_looks change reach n (offset_of es n) (tree_at n (forest row_of es)) kept)
 
-  -- a change that keeps the row of each header above an element, and of each live element of its part, keeps the
+  -- a change that keeps the row of each header above an element, and of each element that is reached in its part, keeps the
   -- rows of all
-  pub rows_kept : AllByRecursion HeaderKept (above_tree es n) → AllByRecursion LiveKept (live_tree es n)
-      → map row_of (flat (exchange above (live_map (λ member. member.deleted) change) n (forest row_of es))) ≡ map row_of es
+  pub rows_kept : AllByRecursion HeaderKept (above_tree es n) → AllByRecursion ReachedKept (reached reach es n)
+      → map row_of (flat (exchange above (reach_map reach change) n (forest row_of es))) ≡ map row_of es
   rows_kept heads kept =
       sym (flat-map row_of made) ∙ ap flat (trees_kept heads kept) ∙ flat-map row_of (forest row_of es) ∙ ap (map row_of) (flat-forest row_of es)
 
   -- so the elements that it leaves nest as the trees that it leaves
-  pub nested_as : AllByRecursion HeaderKept (above_tree es n) → AllByRecursion LiveKept (live_tree es n)
-      → forest row_of (flat (exchange above (live_map (λ member. member.deleted) change) n (forest row_of es)))
-      ≡ exchange above (live_map (λ member. member.deleted) change) n (forest row_of es)
+  pub nested_as : AllByRecursion HeaderKept (above_tree es n) → AllByRecursion ReachedKept (reached reach es n)
+      → forest row_of (flat (exchange above (reach_map reach change) n (forest row_of es)))
+      ≡ exchange above (reach_map reach change) n (forest row_of es)
   nested_as heads kept = sym (known row_of made (trees_kept heads kept ∙ forest_rows row_of es ∙ ap (forest itself) (sym (rows_kept heads kept))))
 
-  -- what holds of each element, of what becomes of each header, and of what becomes of each live element of the
-  -- part, holds of each after the change
+  -- what holds of each element, of what becomes of each header, and of what becomes of each that is
+  -- reached, holds of each after the change
   pub each_kept : (P : Element → Type 0) → AllByRecursion P es → AllByRecursion (λ (v : Live). P (above v.element)) (above_tree es n)
-      → AllByRecursion (λ (v : Live). P (change v.element)) (live_tree es n)
-      → AllByRecursion P (flat (exchange above (live_map (λ member. member.deleted) change) n (forest row_of es)))
+      → AllByRecursion (λ (v : Live). P (change v.element)) (reached reach es n)
+      → AllByRecursion P (flat (exchange above (reach_map reach change) n (forest row_of es)))
   each_kept P each heads those =
       let all : AllByRecursion P (flat (forest row_of es)) = subst (AllByRecursion P) (sym (flat-forest row_of es)) each in
-      exchange_each above (live_map (λ member. member.deleted) change) P n 0 0 (forest row_of es) all heads
-      (live_map_each change P n (offset_of es n) (tree_at n (forest row_of es)) (tree_each P n (forest row_of es) all) those)
+      exchange_each above (reach_map reach change) P n 0 0 (forest row_of es) all heads
+      (reach_map_each change P reach n (offset_of es n) (tree_at n (forest row_of es)) (tree_each P n (forest row_of es) all) those)

@@ -1,5 +1,4 @@
--- Where the headers above an element and the live elements of its part lie: between the first byte of the root's
--- tree and that tree's end.
+-- Where the headers above an element and its part lie: between the first byte of the root's tree and that tree's end.
 use Rattle.std.proofs.Common.{◌≡◌, ℕ, zero, suc, ◌+◌, ◌-◌, ◌<◌, ◌≤◌, List, [], ◌∷◌, ◌++◌, length, take, drop, Bool, true, false, cond, refl, sym, ap, ◌∙◌}
 use Rattle.std.proofs.Common.{subst, arith, length-append, inl, inr}
 use Rattle.std.specs.Prelude.{nat_lt, Some, None, option_map}
@@ -14,7 +13,7 @@ use Rattle.dgn_drawing.specs.Nesting.{Knot, Forest, NoTree, Tree, flat, forest}
 use Rattle.dgn_drawing.specs.Numbering.{Mark, end_of, headers_in, headers_of, first_or, root_of, span_of}
 use Rattle.nest_tree.proofs.NestingSteps.{flat-forest}
 use Rattle.elem_index.specs.Offsets.{offset_of}
-use Rattle.edit_ops.specs.Trees.{count_in, tree_at, Live, live_from, live_tree, above_from, above_tree}
+use Rattle.edit_ops.specs.Trees.{count_in, tree_at, Live, live_from, above_from, above_tree, every_from, Reach, Living, Every, Head, reached_from, reached}
 use Rattle.edit_ops.proofs.PartPlace.{PlacedIn, placed_in, IsPlaced, placed}
 use Rattle.edit_ops.proofs.EachLive.{each_both, live_behind, live_dead, live_alive}
 use Rattle.edit_ops.proofs.LiveFound.{offset_behind}
@@ -54,6 +53,28 @@ live_between n p end (Tree knot e below behind) to =
           ((omega arith, omega arith), each_both (LiesBetween p end) (live_from (n + 1) (p + size_of e) below) (live_behind n p e below behind) inner outer)
     ]
 
+-- and all elements of trees
+every_between : (n p end : ℕ) (f : Forest Element) → p + length (spelling (flat f)) ≤ end → AllByRecursion (LiesBetween p end) (every_from n p f)
+every_between n p end NoTree to = tt
+every_between n p end (Tree knot e below behind) to =
+    let long = tree_long e (flat below) (flat behind) in
+    let inside : List Live = every_from (n + 1) (p + size_of e) below in
+    let past : List Live = every_from (end_of n below) (p + (size_of e + length (spelling (flat below)))) behind in
+    let inner = all_around (p + size_of e) end p end (omega arith) (omega arith) inside (every_between (n + 1) (p + size_of e) end below (omega arith)) in
+    let outer = all_around (p + (size_of e + length (spelling (flat below)))) end p end (omega arith) (omega arith) past
+    (every_between (end_of n below) (p + (size_of e + length (spelling (flat below)))) end behind (omega arith)) in
+    ((omega arith, omega arith), each_both (LiesBetween p end) inside past inner outer)
+
+-- so do those that a change reaches
+reach_between : (reach : Reach) (n p end : ℕ) (f : Forest Element) → p + length (spelling (flat f)) ≤ end
+    → AllByRecursion (LiesBetween p end) (reached_from reach n p f)
+reach_between Living n p end f to = live_between n p end f to
+reach_between Every n p end f to = every_between n p end f to
+reach_between Head n p end NoTree to = tt
+reach_between Head n p end (Tree knot e below behind) to =
+    let long = tree_long e (flat below) (flat behind) in
+    ((omega arith, omega arith), tt)
+
 -- and so do headers
 above_between : (n first p end : ℕ) (f : Forest Element) → p + length (spelling (flat f)) ≤ end → AllByRecursion (LiesBetween p end) (above_from n first p f)
 above_between n first p end NoTree to = tt
@@ -88,8 +109,8 @@ part_long n f known =
     )
 
 -- the root above element n of trees that are numbered from `first` on and begin at byte p, where the part of n
--- begins at byte q: its number among them, its bytes, and that the headers and the live elements lie in them
-record Rooted (n first p q at m : ℕ) (f : Forest Element) : Type 0 where
+-- begins at byte q: its number among them, its bytes, and that the headers and the part lie in them
+record Rooted (n first p q at : ℕ) (f : Forest Element) : Type 0 where
   place : ℕ
   low : ℕ
   high : ℕ
@@ -98,13 +119,14 @@ record Rooted (n first p q at m : ℕ) (f : Forest Element) : Type 0 where
   begins : low ≡ p + length (spelling (take place (flat f)))
   ends : high ≡ low + length (spelling (flat (tree_at place f)))
   above : AllByRecursion (LiesBetween low high) (above_from n first p f)
-  live : AllByRecursion (LiesBetween low high) (live_from m q (tree_at n f))
+  from : low ≤ q
+  to : q + length (spelling (flat (tree_at n f))) ≤ high
 
 -- the headers' numbers above an element below the first head, or behind the first tree
 abbrev headers_side : Bool → ℕ → ℕ → Forest Element → Forest Element → List ℕ
 headers_side b n first below behind = cond b (first ∷ headers_in n (first + 1) below) (headers_in (n - count_in below) (end_of first below) behind)
 
-module _ (n first p q at m : ℕ) (h : Element) (below behind : Forest Element) where
+module _ (n first p q at : ℕ) (h : Element) (below behind : Forest Element) where
   -- the same, of one of the two
   record RootedSide (b : Bool) (tree : Forest Element) : Type 0 where
     place : ℕ
@@ -115,10 +137,11 @@ module _ (n first p q at m : ℕ) (h : Element) (below behind : Forest Element) 
     begins : low ≡ p + length (spelling (take place (flat tree)))
     ends : high ≡ low + length (spelling (flat (tree_at place tree)))
     above : AllByRecursion (LiesBetween low high) (above_side b n first p h below behind)
-    live : AllByRecursion (LiesBetween low high) (live_from m q (tree_side b n below behind))
+    from : low ≤ q
+    to : q + length (spelling (flat (tree_side b n below behind))) ≤ high
 
   rooted_side : (knot : Knot) (b : Bool) → nat_lt n (count_in below) ≡ b → q ≡ p + length (spelling (take (suc n) (h ∷ (flat below ++ flat behind))))
-      → (b ≡ false → Rooted (n - count_in below) (end_of first below) (p + (size_of h + length (spelling (flat below)))) q at m behind)
+      → (b ≡ false → Rooted (n - count_in below) (end_of first below) (p + (size_of h + length (spelling (flat below)))) q at behind)
       → RootedSide b (Tree knot h below behind)
   rooted_side knot true is at_q more =
       let early : n < length (flat below) = ltb-true n (length (flat below)) is in
@@ -140,9 +163,8 @@ module _ (n first p q at m : ℕ) (h : Element) (below behind : Forest Element) 
               (omega arith) (above_from n (first + 1) (p + size_of h) below)
               (above_between n (first + 1) (p + size_of h) (p + length (spelling (h ∷ (flat below ++ [])))) below inner),
         );
-        live = all_around q (p + length (spelling (h ∷ (flat below ++ [])))) p (p + length (spelling (h ∷ (flat below ++ [])))) (omega arith) (omega arith)
-            (live_from m q (tree_at n below))
-            (live_between m q (p + length (spelling (h ∷ (flat below ++ [])))) (tree_at n below) (omega arith));
+        from = omega arith;
+        to = omega arith;
       }
   rooted_side knot false is at_q more =
       let r = more refl in
@@ -165,14 +187,15 @@ module _ (n first p q at m : ℕ) (h : Element) (below behind : Forest Element) 
         begins = omega arith;
         ends = r.ends ∙ ap (λ (f : Forest Element). r.low + length (spelling (flat f))) (sym tree);
         above = r.above;
-        live = r.live;
+        from = r.from;
+        to = r.to;
       }
 
 -- each element has its root
-rooted : (n first p q at m : ℕ) (f : Forest Element) → n < length (flat f) → at ≡ first + n → q ≡ p + length (spelling (take n (flat f)))
-    → Rooted n first p q at m f
-rooted n first p q at m NoTree known at_is at_q = absurd (omega arith)
-rooted zero first p q at m (Tree knot h below behind) known at_is at_q = record {
+rooted : (n first p q at : ℕ) (f : Forest Element) → n < length (flat f) → at ≡ first + n → q ≡ p + length (spelling (take n (flat f)))
+    → Rooted n first p q at f
+rooted n first p q at NoTree known at_is at_q = absurd (omega arith)
+rooted zero first p q at (Tree knot h below behind) known at_is at_q = record {
   place = 0;
   low = p;
   high = p + length (spelling (h ∷ (flat below ++ [])));
@@ -181,16 +204,15 @@ rooted zero first p q at m (Tree knot h below behind) known at_is at_q = record 
   begins = omega arith;
   ends = refl;
   above = tt;
-  live = all_around q (p + length (spelling (h ∷ (flat below ++ [])))) p (p + length (spelling (h ∷ (flat below ++ [])))) (omega arith) (omega arith)
-      (live_from m q (Tree knot h below NoTree))
-      (live_between m q (p + length (spelling (h ∷ (flat below ++ [])))) (Tree knot h below NoTree) (omega arith));
+  from = omega arith;
+  to = omega arith;
 }
-rooted (suc n) first p q at m (Tree knot h below behind) known at_is at_q =
-    let s = rooted_side n first p q at m h below behind knot (nat_lt n (count_in below)) refl at_q
+rooted (suc n) first p q at (Tree knot h below behind) known at_is at_q =
+    let s = rooted_side n first p q at h below behind knot (nat_lt n (count_in below)) refl at_q
     (λ is.
     let late : length (flat below) ≤ n = ltb-false n (length (flat below)) is in
     let split : n ≡ length (flat below) + (n - count_in below) = omega arith in
-    rooted (n - count_in below) (end_of first below) (p + (size_of h + length (spelling (flat below)))) q at m behind
+    rooted (n - count_in below) (end_of first below) (p + (size_of h + length (spelling (flat below)))) q at behind
     (omega (arith, known, length-append (flat below) (flat behind)))
     (omega arith)
     (omega (arith, at_q, before_behind n (n - count_in below) h (flat below) (flat behind) split))) in
@@ -203,15 +225,16 @@ rooted (suc n) first p q at m (Tree knot h below behind) known at_is at_q =
       begins = s.begins;
       ends = s.ends;
       above = s.above;
-      live = s.live;
+      from = s.from;
+      to = s.to;
     }
 
--- where the tree of a root begins and ends, and that the headers above an element of it and the live elements of
--- that element's part lie there
+-- where the tree of a root begins and ends, and that the headers above an element of it and that element's part lie there
 pub record LieInTree (es : List Element) (n root end : ℕ) : Type 0 where
   pub rises : offset_of es root ≤ offset_of es end
   pub above : AllByRecursion (LiesBetween (offset_of es root) (offset_of es end)) (above_tree es n)
-  pub live : AllByRecursion (LiesBetween (offset_of es root) (offset_of es end)) (live_tree es n)
+  pub from : offset_of es root ≤ offset_of es n
+  pub to : offset_of es n + length (spelling (flat (tree_at n (forest row_of es)))) ≤ offset_of es end
 
 -- the value that an option has
 some_value : {x y : ℕ} → Some x ≡ Some y → x ≡ y
@@ -234,7 +257,7 @@ tree_ends es root end known span =
 
 -- an element lies so, whose root among the trees is known
 lie_as : (es : List Element) (n root end : ℕ) → n < length es → root_of row_of es n ≡ Some root → span_of row_of es root ≡ Some (root, end)
-    → Rooted n 0 0 (offset_of es n) n n (forest row_of es) → LieInTree es n root end
+    → Rooted n 0 0 (offset_of es n) n (forest row_of es) → LieInTree es n root end
 lie_as es n root end known root_is span r =
     let count : length (flat (forest row_of es)) ≡ length es = ap (length {A = Element}) (flat-forest row_of es) in
     let same : first_or n (headers_of row_of es n) ≡ root =
@@ -254,8 +277,8 @@ lie_as es n root end known root_is span r =
       rises = omega arith;
       above = subst (λ (x : ℕ). AllByRecursion (LiesBetween x (offset_of es end)) (above_tree es n)) low
           (subst (λ (x : ℕ). AllByRecursion (LiesBetween r.low x) (above_tree es n)) high r.above);
-      live = subst (λ (x : ℕ). AllByRecursion (LiesBetween x (offset_of es end)) (live_tree es n)) low
-          (subst (λ (x : ℕ). AllByRecursion (LiesBetween r.low x) (live_tree es n)) high r.live);
+      from = subst (λ (x : ℕ). x ≤ offset_of es n) low r.from;
+      to = subst (λ (x : ℕ). offset_of es n + length (spelling (flat (tree_at n (forest row_of es)))) ≤ x) high r.to;
     }
 
 -- each element of a drawing lies so
@@ -265,4 +288,11 @@ lie_in_tree es n root end known root_is span =
     let count : length (flat (forest row_of es)) ≡ length es = ap (length {A = Element}) (flat-forest row_of es) in
     let at_q : offset_of es n ≡ 0 + length (spelling (take n (flat (forest row_of es)))) =
     ap (λ (l : List Element). length (spelling (take n l))) (sym (flat-forest row_of es)) ∙ omega arith in
-    lie_as es n root end known root_is span (rooted n 0 0 (offset_of es n) n n (forest row_of es) (omega arith) (omega arith) at_q)
+    lie_as es n root end known root_is span (rooted n 0 0 (offset_of es n) n (forest row_of es) (omega arith) (omega arith) at_q)
+
+-- so each element lies there that a change reaches in the part
+pub reached_lie : (reach : Reach) (es : List Element) (n root end : ℕ) → LieInTree es n root end
+    → AllByRecursion (LiesBetween (offset_of es root) (offset_of es end)) (reached reach es n)
+reached_lie reach es n root end lie =
+    all_around (offset_of es n) (offset_of es end) (offset_of es root) (offset_of es end) lie.from (omega arith) (reached reach es n)
+    (reach_between reach n (offset_of es n) (offset_of es end) (tree_at n (forest row_of es)) lie.to)

@@ -10,7 +10,7 @@ use Rattle.dgn_drawing.specs.Values.{IsShift, IsLook}
 use Rattle.dgn_drawing.specs.Changes.{freed}
 use Rattle.dgn_drawing.specs.NewElements.{IsNew, element_made}
 use Rattle.edit_ops.specs.declared.causes.cause.Cause.{Cause}
-use Rattle.edit_ops.specs.Trees.{tree_at, exchange, live_map}
+use Rattle.edit_ops.specs.Trees.{tree_at, exchange, live_map, reach_map}
 use Rattle.edit_ops.specs.Causes.{cause_of}
 use Rattle.edit_ops.specs.Rules.{Rule, rule_of}
 
@@ -19,9 +19,9 @@ pub data Applied : Type 0 where
   Done : List Element → Applied
   Refused : Cause → Applied
 
--- the trees with each live element of the part of element n changed, and each header above it
+-- the trees with each element changed that a row reaches in the part of element n, and each header above it
 abbrev pub altered : Rule → List Element → ℕ → Forest Element
-altered r es n = exchange (r.above (slice_get es n)) (live_map (λ member. member.deleted) r.made) n (forest row_of es)
+altered r es n = exchange (r.above (slice_get es n)) (reach_map r.reach r.made) n (forest row_of es)
 
 -- trees of which the first has a head without bit C
 abbrev pub head_freed : Forest Element → Forest Element

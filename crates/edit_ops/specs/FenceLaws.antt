@@ -1,15 +1,12 @@
 -- What holds of every edit of several roots that is done.
-use Rattle.std.specs.Prelude.{ℕ, ◌≡◌, ◌+◌, ◌<◌, ◌≤◌, List, ◌++◌, length, map, take, drop, slice_index, All}
-use Rattle.patch_bytes.specs.Puts.{write}
+use Rattle.std.specs.Prelude.{ℕ, ◌≡◌, ◌+◌, ◌≤◌, List, ◌++◌, length, All}
 use Rattle.dgn_drawing.specs.declared.fence_edit.FenceEdit.{FenceEdit}
 use Rattle.dgn_drawing.specs.Element.{Element}
 use Rattle.dgn_drawing.specs.Spelling.{spelling}
-use Rattle.dgn_drawing.specs.Rows.{row_of}
-use Rattle.dgn_drawing.specs.Nesting.{forest, BeginsFree}
 use Rattle.dgn_drawing.specs.Opening.{Opens}
 use Rattle.edit_ops.specs.Applying.{Done}
-use Rattle.edit_ops.specs.Fields.{IsIn, Rise, filled}
-use Rattle.edit_ops.specs.Laws.{FieldsLieApart}
+use Rattle.edit_ops.specs.Fields.{Rise}
+use Rattle.edit_ops.specs.Laws.{ChangesFields, FieldsLieApart}
 use Rattle.edit_ops.specs.Fenced.{apply_all, fenced_forest, fenced_fields, edit_at, edits_at, all_appended, AreRoots, IsFenceEdit}
 use Rattle.dgn_drawing.specs.declared.limits.TheConstants.{MOST_DESIGN}
 
@@ -27,17 +24,10 @@ FencedDrawingsFit =
     → IsFenceEdit e → AreRoots es ns → Opens f dim es t → apply_all dim es rest e ns ≡ Done made
     → length (spelling es) + rest ≤ MOST_DESIGN → length (spelling made) + rest ≤ MOST_DESIGN
 
--- its result has the old bytes in no edited field, and is the old bytes with these written; it is longer only by whole
--- elements, which begin without bit C, so by whole trees; and its trees are those of which the chosen ones are changed
-pub record ChangesFencedFields (dim : ℕ) (es : List Element) (e : FenceEdit) (ns : List ℕ) (made : List Element) : Type 0 where
-  pub stays : (k : ℕ) → k < length (spelling es) → All (λ f. ¬ IsIn f k) (fenced_fields dim es e ns)
-      → slice_index (spelling made) k ≡ slice_index (spelling es) k
-  pub written : spelling made
-      ≡ write (spelling es) (filled (spelling made) (fenced_fields dim es e ns)) ++ drop (length (spelling es)) (spelling made)
-  pub long : length (spelling made) ≡ length (spelling es) + all_appended es (edits_at e ns)
-  pub rows : map row_of (take (length es) made) ≡ map row_of es
-  pub appended : BeginsFree row_of (drop (length es) made)
-  pub nested : forest row_of made ≡ fenced_forest dim es e ns
+-- it changes its fields alone, is longer only by the copies, and its trees are those of which the chosen ones are changed,
+-- or the trees as they were with the copies behind them
+abbrev pub ChangesFencedFields : ℕ → List Element → FenceEdit → List ℕ → List Element → Type 0
+ChangesFencedFields dim es e ns made = ChangesFields es made (fenced_fields dim es e ns) (all_appended es (edits_at e ns)) (fenced_forest dim es e ns)
 
 abbrev pub FenceEditsChangeTheirFields : Type 0
 FenceEditsChangeTheirFields =

@@ -5,13 +5,13 @@ use Rattle.dgn_drawing.specs.declared.edit.Edit.{Edit}
 use Rattle.dgn_drawing.specs.Element.{Element}
 use Rattle.dgn_drawing.specs.Spelling.{spelling, size_of}
 use Rattle.dgn_drawing.specs.Rows.{row_of}
-use Rattle.dgn_drawing.specs.Nesting.{forest, BeginsFree}
+use Rattle.dgn_drawing.specs.Nesting.{Forest, forest, BeginsFree}
 use Rattle.dgn_drawing.specs.Numbering.{span_of, root_of}
 use Rattle.elem_index.specs.Offsets.{offset_of}
 use Rattle.dgn_drawing.specs.Opening.{Opens}
 use Rattle.edit_ops.specs.declared.causes.cause.Cause.{Cause}
 use Rattle.edit_ops.specs.declared.causes.test.Test.{Test}
-use Rattle.edit_ops.specs.Trees.{Live, live_tree, above_tree, path_to}
+use Rattle.edit_ops.specs.Trees.{Live, reached, live_tree, above_tree, path_to}
 use Rattle.edit_ops.specs.Causes.{target_of, cause_at, first_cause, bytes_appended}
 use Rattle.edit_ops.specs.Applying.{Done, apply, changed_forest, IsEdit}
 use Rattle.edit_ops.specs.Fields.{Field, IsIn, Rise, filled}
@@ -32,17 +32,19 @@ EditedDrawingsFit =
     → IsEdit e → Opens f dim es t → apply dim es rest e ≡ Done made → length (spelling es) + rest ≤ MOST_DESIGN
     → length (spelling made) + rest ≤ MOST_DESIGN
 
--- its result has the old bytes in no edited field, and is the old bytes with these written; it is longer only by
--- whole elements, which begin without bit C, so by whole trees; and its trees are the changed ones
-pub record ChangesItsFields (dim : ℕ) (es : List Element) (e : Edit) (made : List Element) : Type 0 where
-  pub stays : (k : ℕ) → k < length (spelling es) → All (λ f. ¬ IsIn f k) (edited_fields dim es e)
-      → slice_index (spelling made) k ≡ slice_index (spelling es) k
-  pub written : spelling made
-      ≡ write (spelling es) (filled (spelling made) (edited_fields dim es e)) ++ drop (length (spelling es)) (spelling made)
-  pub long : length (spelling made) ≡ length (spelling es) + bytes_appended es e
+-- other elements have the old bytes in none of these fields, and are the old bytes with these written; they are longer
+-- by so many bytes, and only by whole elements, which begin without bit C, so by whole trees; and their trees are these
+pub record ChangesFields (es made : List Element) (fields : List Field) (more : ℕ) (trees : Forest Element) : Type 0 where
+  pub stays : (k : ℕ) → k < length (spelling es) → All (λ f. ¬ IsIn f k) fields → slice_index (spelling made) k ≡ slice_index (spelling es) k
+  pub written : spelling made ≡ write (spelling es) (filled (spelling made) fields) ++ drop (length (spelling es)) (spelling made)
+  pub long : length (spelling made) ≡ length (spelling es) + more
   pub rows : map row_of (take (length es) made) ≡ map row_of es
   pub appended : BeginsFree row_of (drop (length es) made)
-  pub nested : forest row_of made ≡ changed_forest dim es e
+  pub nested : forest row_of made ≡ trees
+
+-- so does what an edit leaves that is done, with its fields, what it appends, and the trees that it leaves
+abbrev pub ChangesItsFields : ℕ → List Element → Edit → List Element → Type 0
+ChangesItsFields dim es e made = ChangesFields es made (edited_fields dim es e) (bytes_appended es e) (changed_forest dim es e)
 
 abbrev pub EditsChangeTheirFields : Type 0
 EditsChangeTheirFields =
@@ -60,8 +62,8 @@ pub record FieldsLieApart (dim : ℕ) (es : List Element) (e : Edit) : Type 0 wh
   pub in_tree : (n root end : ℕ) → target_of e ≡ Some n → root_of row_of es n ≡ Some root
       → span_of row_of es root ≡ Some (root, end)
       → Rise (offset_of es root) (edited_fields dim es e) (offset_of es end)
-  pub within : (n : ℕ) → target_of e ≡ Some n → LieIn (λ v. (rule_of dim e).fields v.place v.element) (live_tree es n)
-  pub above : (n : ℕ) → target_of e ≡ Some n → LieIn (λ v. (rule_of dim e).over v.place) (above_tree es n)
+  pub within : (n : ℕ) → target_of e ≡ Some n → LieIn (λ v. (rule_of dim e).fields v.place v.element) (reached (rule_of dim e).reach es n)
+  pub above : (n : ℕ) → target_of e ≡ Some n → LieIn (λ v. (rule_of dim e).over v.place v.element) (above_tree es n)
 
 abbrev pub EditedFieldsAreApart : Type 0
 EditedFieldsAreApart =

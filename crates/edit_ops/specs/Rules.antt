@@ -14,14 +14,17 @@ use Rattle.dgn_drawing.specs.Spelling.{second_byte, spell}
 use Rattle.dgn_drawing.specs.Changes.{look_changed, look_bytes, recolour, mark, shift, range_in, widen}
 use Rattle.dgn_drawing.specs.SpotNumbers.{value_at, sum_at, number_bytes, wider}
 use Rattle.edit_ops.specs.Fields.{Field, spot_fields}
+use Rattle.edit_ops.specs.Trees.{Reach, Living}
 
--- the row: what becomes of a live element, and of a header above the part by the element whose part it is, if there is
--- one; the fields of a live element that begins at byte p, and of such a header; and what is put into the one and the other
+-- the row: which elements of the part it reaches; what becomes of one of these, and of a header above the part by the
+-- element whose part it is, if there is one; the fields of the one and the other where it begins at byte p; and what is put
+-- there
 pub record Rule : Type 0 where
+  pub reach : Reach
   pub made : Element → Element
   pub above : Option Element → Element → Element
   pub fields : ℕ → Element → List Field
-  pub over : ℕ → List Field
+  pub over : ℕ → Element → List Field
   pub puts : ℕ → Element → List Put
   pub over_puts : Option Element → ℕ → Element → List Put
 
@@ -64,10 +67,11 @@ header_puts dim by (Some e) p header = holding_puts dim (shift dim by e).body p 
 -- a displacement puts the sum at each spot, and leaves what is above; so a copy is made
 abbrev pub displacing : ℕ → Displacement → Rule
 displacing dim by = record {
+  reach = Living;
   made = shift dim by;
   above = λ head header. header;
   fields = λ p e. spot_fields p (spots_of dim e.kind (spell e));
-  over = λ p. [];
+  over = λ p header. [];
   puts = λ p e. map (sum_put by p (spell e)) (spots_of dim e.kind (spell e));
   over_puts = λ head p header. [];
 }
@@ -76,17 +80,18 @@ displacing dim by = record {
 abbrev pub moving : ℕ → Displacement → Rule
 moving dim by = record (displacing dim by) {
   above = header_over dim by;
-  over = λ p. spot_fields p (range_spots dim);
+  over = λ p header. spot_fields p (range_spots dim);
   over_puts = header_puts dim by;
 }
 
 -- another look is two bytes
 abbrev pub recolouring : LookChange → Rule
 recolouring change = record {
+  reach = Living;
   made = recolour change;
   above = λ head header. header;
   fields = λ p e. record { at = p + 34; len = 2 } ∷ [];
-  over = λ p. [];
+  over = λ p header. [];
   puts = λ p e. look_put change p e.body;
   over_puts = λ head p header. [];
 }
@@ -94,10 +99,11 @@ recolouring change = record {
 -- a deletion sets the mark in byte 1
 abbrev pub deleting : Rule
 deleting = record {
+  reach = Living;
   made = mark;
   above = λ head header. header;
   fields = λ p e. record { at = p + 1; len = 1 } ∷ [];
-  over = λ p. [];
+  over = λ p header. [];
   puts = λ p e. record { at = p + 1; bytes = second_byte (mark e) ∷ [] } ∷ [];
   over_puts = λ head p header. [];
 }
@@ -105,10 +111,11 @@ deleting = record {
 -- what appends changes nothing that is there
 abbrev pub unchanged : Rule
 unchanged = record {
+  reach = Living;
   made = λ e. e;
   above = λ head header. header;
   fields = λ p e. [];
-  over = λ p. [];
+  over = λ p header. [];
   puts = λ p e. [];
   over_puts = λ head p header. [];
 }

@@ -7,7 +7,7 @@ use Rattle.elem_index.specs.Offsets.{offset_of}
 use Rattle.dgn_drawing.specs.Element.{Element}
 use Rattle.dgn_drawing.specs.Spelling.{spelling, size_of}
 use Rattle.dgn_drawing.specs.Rows.{row_of}
-use Rattle.dgn_drawing.specs.Nesting.{Forest, NoTree, Tree, flat, forest, joined}
+use Rattle.dgn_drawing.specs.Nesting.{Forest, NoTree, Tree, flat, forest, forest_map, joined}
 use Rattle.dgn_drawing.specs.Numbering.{end_of}
 
 -- how many elements trees have
@@ -50,6 +50,37 @@ live_from n p (Tree knot e below behind) =
 -- the live elements of the part of element n
 abbrev pub live_tree : List Element → ℕ → List Live
 live_tree es n = live_from n (offset_of es n) (tree_at n (forest row_of es))
+
+-- all elements of trees whose first element has number n and begins at byte p
+abbrev pub every_from : ℕ → ℕ → Forest Element → List Live
+every_from n p NoTree = []
+every_from n p (Tree knot e below behind) =
+    record { number = n; place = p; element = e }
+    ∷ (every_from (n + 1) (p + size_of e) below ++ every_from (end_of n below) (p + (size_of e + length (spelling (flat below)))) behind)
+
+-- which elements of a part a change reaches: the live ones, each of them, or its head alone
+pub data Reach : Type 0 where
+  Living : Reach
+  Every : Reach
+  Head : Reach
+
+-- the trees with each element changed that it reaches
+abbrev pub reach_map : Reach → (Element → Element) → Forest Element → Forest Element
+reach_map Living change f = live_map (λ e. e.deleted) change f
+reach_map Every change f = forest_map change f
+reach_map Head change NoTree = NoTree
+reach_map Head change (Tree knot h below behind) = Tree knot (change h) below behind
+
+-- these elements
+abbrev pub reached_from : Reach → ℕ → ℕ → Forest Element → List Live
+reached_from Living n p f = live_from n p f
+reached_from Every n p f = every_from n p f
+reached_from Head n p NoTree = []
+reached_from Head n p (Tree knot e below behind) = record { number = n; place = p; element = e } ∷ []
+
+-- of the part of element n
+abbrev pub reached : Reach → List Element → ℕ → List Live
+reached reach es n = reached_from reach n (offset_of es n) (tree_at n (forest row_of es))
 
 -- the headers above element n of trees whose first element has that number and begins at byte p, the root first
 abbrev pub above_from : ℕ → ℕ → ℕ → Forest Element → List Live

@@ -12,7 +12,7 @@ use Rattle.dgn_drawing.specs.declared.edit.Edit.TheVariants as edit
 use Rattle.dgn_drawing.specs.Values.{LookChange}
 use Rattle.dgn_drawing.specs.Element.{Element}
 use Rattle.dgn_drawing.specs.Changes.{stays_on_plane}
-use Rattle.edit_ops.specs.Trees.{Live, live_tree, above_tree, found_at}
+use Rattle.edit_ops.specs.Trees.{Live, reached, above_tree, found_at}
 use Rattle.edit_ops.specs.Rules.{Rule}
 use Rattle.dgn_layout.specs.declared.TheConstants.{END_MARK}
 
@@ -20,7 +20,7 @@ use Rattle.dgn_layout.specs.declared.TheConstants.{END_MARK}
 abbrev pub new_look : LookChange → Symb → List ℕ
 new_look change look = (unwrap_or change.style look.style + 8 * unwrap_or change.weight look.weight) ∷ unwrap_or change.color look.color ∷ []
 
--- what is put into live elements, or into the copies of them
+-- what is put into elements that a row reaches, or into the copies of them
 abbrev pub live_puts : Rule → List Live → List Put
 live_puts r vs = flat_map (λ v. r.puts v.place v.element) vs
 
@@ -28,9 +28,9 @@ live_puts r vs = flat_map (λ v. r.puts v.place v.element) vs
 abbrev pub above_puts : Rule → Option Element → List Live → List Put
 above_puts r head vs = flat_map (λ v. r.over_puts head v.place v.element) vs
 
--- into the headers above the part of element n, and into its live elements
+-- into the headers above the part of element n, and into the elements that the row reaches in it
 abbrev pub part_puts : Rule → List Element → ℕ → List Put
-part_puts r es n = above_puts r (slice_get es n) (above_tree es n) ++ live_puts r (live_tree es n)
+part_puts r es n = above_puts r (slice_get es n) (above_tree es n) ++ live_puts r (reached r.reach es n)
 
 -- nothing stands against an edit of this live element
 abbrev pub IsReady : ℕ → Edit → Element → Type 0

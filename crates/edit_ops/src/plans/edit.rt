@@ -214,6 +214,7 @@ fn plan_append(
     ensures planned { PlansUnless d.now.dim (elements d.now) (length d.now.tail.items + pending) edit.now result all.old all.new }
     ensures known { IsErrOf result EditFault.Memory → IfSome (target_of edit.now) (λ n. n < length (elements d.now)) }
 {
+    d.is_whole();
     let Edit::Append(new) = edit else {
         unreachable!()
     };

@@ -6,13 +6,14 @@ use Rattle.dgn_drawing.specs.Spelling.{spelling}
 use Rattle.dgn_drawing.specs.Nesting.{flat}
 use Rattle.elem_index.specs.Design.{elements}
 use Rattle.edit_ops.specs.declared.types.plan.Plan.{Plan}
-use Rattle.edit_ops.specs.Applying.{copied}
 use Rattle.edit_ops.specs.Causes.{part_cause, causes_of, first_of}
 use Rattle.edit_ops.specs.Copying.{tree_copy}
 use Rattle.edit_ops.specs.Rules.{rule_of}
 use Rattle.edit_ops.specs.Written.{part_puts}
 use Rattle.edit_ops.proofs.PlanBehind.{appends_behind, writes_behind}
-use Rattle.edit_ops.proofs.CauseOrder.{known_is, later_first, planned_unless, copied_plan, changed_plan, causes_in_place, is_in_place}
+use Rattle.edit_ops.proofs.CauseOrder.{known_is, later_first, planned_unless, puts_in_place, causes_in_place, is_in_place}
+use Rattle.edit_ops.proofs.EditsLeft.{own_puts, own_bytes}
+use Rattle.edit_ops.proofs.EditLaws.{edit_plan}
 use Rattle.edit_ops.proofs.CauseOrder.{copy_named}
 use Rattle.edit_ops.proofs.plans.edit.plan_part.Goals as goal
 
@@ -32,9 +33,9 @@ returns-in-Copy c =
           c.requires.target known same c.plan_copy.ensures
           (λ more free.
           appends_behind d.dim es rest e c.args.all.now after bytes
-          (copied_plan d.dim es rest e c.args.n c.args.n c.in-Copy.by (record { patches = []; append = bytes }) c.requires.target named
-          (later_first d.dim es rest e c.args.n c.requires.target known ∙ same ∙ free) refl
-          (ap (λ (x : Edit). spelling (flat (copied (rule_of d.dim x) es c.args.n))) (sym named)))
+          (edit_plan (d.body.items ++ d.tail.items) d.dim es d.tail.items rest e c.requires.fits c.is_whole.ensures.is_open.opens
+          (later_first d.dim es rest e c.args.n c.requires.target known ∙ same ∙ free) (record { patches = []; append = bytes })
+          (sym (ap (own_puts d.dim es) named)) (sym (ap (own_bytes d.dim es) named)))
           refl more);
       known = λ _. known;
     }
@@ -49,15 +50,16 @@ returns c =
     let here = is_in_place e c.args.n c.requires.target c.in_default-edit.not-Copy in
     let same = ap (option_or (part_cause d.dim es c.args.n)) (causes_in_place d.dim es rest e here) in
     let puts = part_puts (rule_of d.dim e) es c.args.n in
+    let own = puts_in_place d.dim es e c.args.n c.requires.target here in
     let after : Plan = record { patches = c.plan_in_place.new.patches; append = c.args.all.now.append } in
     record {
       planned = planned_unless puts c.args.all.now.patches c.plan_in_place.new.patches d.dim es rest e c.args.n c.plan_in_place.result c.args.all.now after
           c.requires.target known same c.plan_in_place.ensures
           (λ more free.
           writes_behind d.dim es rest e c.args.all.now after puts
-          (changed_plan (d.body.items ++ d.tail.items) d.dim es d.tail.items rest e c.args.n (record { patches = puts; append = [] })
-          c.requires.fits c.is_whole.ensures.is_open.opens c.requires.target
-          here (later_first d.dim es rest e c.args.n c.requires.target known ∙ same ∙ free) refl refl)
+          (edit_plan (d.body.items ++ d.tail.items) d.dim es d.tail.items rest e c.requires.fits c.is_whole.ensures.is_open.opens
+          (later_first d.dim es rest e c.args.n c.requires.target known ∙ same ∙ free) (record { patches = puts; append = [] })
+          (sym own.0) (sym own.1))
           more refl);
       known = λ _. known;
     }
