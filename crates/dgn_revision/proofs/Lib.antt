@@ -1,0 +1,12 @@
+pub mod FirstBytes
+pub mod PiecesWritten
+pub mod RevisedBodies
+pub mod Locks
+pub mod BodiesByType
+pub mod Names
+pub mod TextsInPlace
+pub mod LongerTexts
+pub mod PointsPut
+pub mod Vertices
+pub mod WorkedTexts
+pub mod WorkedVertices

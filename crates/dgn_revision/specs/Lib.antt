@@ -1,0 +1,5 @@
+pub mod Revisions
+pub mod Revising
+pub mod Stretches
+pub mod RevisionPuts
+pub mod Laws
