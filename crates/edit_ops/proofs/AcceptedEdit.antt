@@ -185,25 +185,45 @@ pub record IsKept (es : List Element) (n : ℕ) : Type 0 where
   pub sound : broken (broken_in es (root_of row_of es n)) ≡ None
   pub first : (vs : List Live) × (live_tree es n ≡ record { number = n; place = offset_of es n; element = head } ∷ vs)
 
--- where neither it is unknown nor something keeps its part
-pub kept : (dim : ℕ) (es : List Element) (n : ℕ) → n < length es → part_cause dim es n ≡ None → IsKept es n
-kept dim es n known is =
-    let both = none_both (broken (broken_in es (root_of row_of es n))) (first_cause dim tests.NotDeleted (path_to es n)) is in
+-- an element that isn't marked deleted, nor is a header above it
+pub record IsAlive (es : List Element) (n : ℕ) : Type 0 where
+  pub head : Element
+  pub there : slice_get es n ≡ Some head
+  pub alive : head.deleted ≡ false
+  pub headers_alive : AllByRecursion (λ v. v.element.deleted ≡ false) (above_tree es n)
+  pub first : (vs : List Live) × (live_tree es n ≡ record { number = n; place = offset_of es n; element = head } ∷ vs)
+
+-- where none of them is
+pub path_alive : (dim : ℕ) (es : List Element) (n : ℕ) → n < length es → first_cause dim tests.NotDeleted (path_to es n) ≡ None → IsAlive es n
+path_alive dim es n known none =
     let x : IsThere es n = is_there es n known in
     let P : Live → Type 0 = λ v. v.element.deleted ≡ false in
     let each : AllByRecursion P (path_to es n) = all_so (λ v. cause_at dim tests.NotDeleted v.number v.element ≡ None) P
-    (λ v is. unmet v.element.deleted (causes.Deleted v.number) is) (path_to es n) (none_first dim tests.NotDeleted (path_to es n) both.1) in
+    (λ v is. unmet v.element.deleted (causes.Deleted v.number) is) (path_to es n) (none_first dim tests.NotDeleted (path_to es n) none) in
     let last : AllByRecursion P (option_to_list (found_at es n)) = each_last P (above_tree es n) (option_to_list (found_at es n)) each in
     let one = subst (λ (o : Option Element). AllByRecursion P
     (option_to_list (option_map (λ (e : Element). record { number = n; place = offset_of es n; element = e }) o))) x.there last in
     record {
-      known = known;
       head = x.head;
       there = x.there;
       alive = one.0;
       headers_alive = each_first P (above_tree es n) (option_to_list (found_at es n)) each;
-      sound = both.0;
       first = x.first one.0;
+    }
+
+-- where neither it is unknown nor something keeps its part
+pub kept : (dim : ℕ) (es : List Element) (n : ℕ) → n < length es → part_cause dim es n ≡ None → IsKept es n
+kept dim es n known is =
+    let both = none_both (broken (broken_in es (root_of row_of es n))) (first_cause dim tests.NotDeleted (path_to es n)) is in
+    let a : IsAlive es n = path_alive dim es n known both.1 in
+    record {
+      known = known;
+      head = a.head;
+      there = a.there;
+      alive = a.alive;
+      headers_alive = a.headers_alive;
+      sound = both.0;
+      first = a.first;
     }
 
 -- an edit that isn't refused: its element is there, is live, isn't the first, and nothing stands against it nor
@@ -225,7 +245,7 @@ pub head_ready : (dim : ℕ) (es : List Element) (e : Edit) (n : ℕ) → AllByR
 head_ready dim es e n able k = (subst (AllByRecursion (λ v. IsReady dim e v.element)) k.first.1 able).0
 
 -- the first element is silent, so it isn't edited
-not_first : (dim : ℕ) (es : List Element) (n : ℕ) (x : Element) → AllByRecursion (IsWellFormed dim) es → BeginsWithTcb es
+pub not_first : (dim : ℕ) (es : List Element) (n : ℕ) (x : Element) → AllByRecursion (IsWellFormed dim) es → BeginsWithTcb es
     → slice_get es n ≡ Some x → (is_silent (class_of x.kind) ≡ true → ⊥) → 0 < n
 not_first dim [] n x each first there loud = absurd first
 not_first dim (y ∷ es) zero x each first there loud =

@@ -4,6 +4,10 @@ pub mod CopyEdits
 pub mod WhatIsLeft
 pub mod PartChanged
 pub mod EditsLeft
+pub mod RevisionRows
+pub mod RevisionTargets
+pub mod RevisionsLeft
+pub mod RevisionLaws
 pub mod EditLaws
 pub mod FieldsRise
 pub mod LeastCause

@@ -16,3 +16,7 @@ pub mod Asking
 pub mod Copying
 pub mod Putting
 pub mod Lone
+pub mod RevisionRules
+pub mod RevisionCauses
+pub mod Revised
+pub mod RevisionLaws

@@ -6,4 +6,6 @@ pub mod edit_fault;
 pub mod first;
 pub mod in_place;
 pub mod part;
+pub mod revise_cause;
+pub mod revise_fault;
 pub mod test;

@@ -3,6 +3,7 @@
 ghost use Rattle.edit_ops.specs.Laws.{EditedDrawingsOpen, EditedDrawingsFit, EditsChangeTheirFields, EditedFieldsAreApart, LiveNumbersRise};
 ghost use Rattle.edit_ops.specs.Laws.{PathNumbersRise, FirstCauseIsLeast};
 ghost use Rattle.edit_ops.specs.WalkLaws.{HeadersAreNumbered, PartsAreSpans, ExchangesAreLocal, FieldsRiseAsPatches, SpotsRiseAsFields};
+ghost use Rattle.edit_ops.specs.RevisionLaws.{RevisedDrawingsOpen, RevisedDrawingsFit, RevisionsChangeTheirFields, RevisedFieldsAreApart};
 ghost use Rattle.edit_ops.specs.FenceLaws.{FencedDrawingsOpen, FencedDrawingsFit, FenceEditsChangeTheirFields, FencedFieldsAreApart};
 
 /// An edited drawing opens: what an edit that is done leaves opens in the same dimension, with the elements
@@ -66,4 +67,19 @@ pub fn walks_agree()
 pub fn rising_is_one_order()
     ensures fields { FieldsRiseAsPatches }
     ensures spots { SpotsRiseAsFields }
+{}
+
+/// A revised drawing opens: what a revision that is done leaves opens in the same dimension, with the elements that it makes
+/// and the same tail. Where its elements and the rest keep the limit of a design file before, they do so after it.
+pub fn a_revised_drawing_opens()
+    ensures opens { RevisedDrawingsOpen }
+    ensures fits { RevisedDrawingsFit }
+{}
+
+/// A revision changes its fields alone: each byte in none of them stays, and the trees are the changed ones, behind which
+/// stands a longer text where the revised one has no room for it. Its fields rise within the elements, so no two share a
+/// byte.
+pub fn a_revision_changes_its_fields_alone()
+    ensures changes { RevisionsChangeTheirFields }
+    ensures apart { RevisedFieldsAreApart }
 {}
