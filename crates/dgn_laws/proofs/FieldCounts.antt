@@ -40,7 +40,7 @@ spots_few p (s ∷ ss) = (record { least = omega arith; most = omega arith }, sp
 
 at_few : (dim : ℕ) (e : Edit) (p : ℕ) (x : Element) → AllByRecursion HasFew ((rule_of dim e).fields p x)
 at_few dim (edit.Move n by) p x = spots_few p (spots_of dim x.kind (spell x))
-at_few dim (edit.Copy n by) p x = tt
+at_few dim (edit.Copy n by) p x = spots_few p (spots_of dim x.kind (spell x))
 at_few dim (edit.Sym n change) p x = (record { least = omega arith; most = omega arith }, tt)
 at_few dim (edit.Delete n) p x = (record { least = omega arith; most = omega arith }, tt)
 at_few dim (edit.Append new) p x = tt
