@@ -5,7 +5,7 @@ PROGRAM = crates/dgnedit/out/dgnedit
 
 ROOT = $(DESTDIR)$(PREFIX)
 
-.PHONY: build check examples install uninstall lib web card dist clean help
+.PHONY: build check examples install uninstall lib web card manual dist clean help
 
 build:          ## proves and builds the program, where it isn't built or a source is newer
 	@./dgnedit --build
@@ -25,12 +25,15 @@ uninstall:      ## removes what install has installed
 lib:            ## makes the library for C: dist/libdgnedit.a and dist/dgnedit.h
 	tools/make_library lib dist
 
-web:            ## makes the editor in a browser: dist/dgnedit.html, with the program in it as dist/dgnedit.wasm
+web: manual     ## makes the editor in a browser: dist/dgnedit.html, with the program in it as dist/dgnedit.wasm, and the manual
 	tools/make_library web dist
 	tools/make_app
 
 card:           ## makes the quick card of all commands, which prints on two pages: dist/dgnedit-card.html
 	tools/make_card
+
+manual:         ## makes the manual, all pages for users as one to search in: dist/dgnedit-manual.html
+	tools/make_manual
 
 dist: build lib web card ## makes dist/: archives, Debian packages, wheels for pip, the editor in a browser, and SHA256SUMS
 	tools/make_program x86_64 aarch64 windows dist

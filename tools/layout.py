@@ -8,6 +8,7 @@ import subprocess
 import sys
 import tempfile
 
+import links
 import release
 from packed import LINK, RUNS, Entry, Tree, below, entry_of, zipped
 
@@ -17,6 +18,7 @@ DOCUMENTS = ('md', 'svg', 'png')        # what of docs/ is read
 SHARED = 'libdgnedit.so.1'              # the shared library, by the name that programs ask for
 DLL = ('dgnedit.dll', 'dgnedit.lib')    # that for Windows, and what a program is linked with
 DOC = 'share/doc/dgnedit'
+SINGLE = ('dgnedit-manual.html', 'dgnedit-card.html')     # pages that have all of theirs in one file
 
 # What pkg-config reads, which stands in `pkgconfig` beside the libraries.
 PKG_CONFIG = """prefix=${pcfiledir}/%s
@@ -48,18 +50,28 @@ def optional(place: str, path: str) -> Tree:
     return {place: entry_of(path)} if os.path.exists(path) else {}
 
 
+def page_of(name: str, packed: set[str]) -> Entry:
+    """A page, in which what isn't packed is named without a link."""
+    text = links.without_links(release.text_of(name), name, packed)
+    return Entry(text.encode('utf-8'))
+
+
 def documents(made: str) -> Tree:
-    """Documents and examples, in the folders in which they stand in the sources, so that links lead on, and the quick
-    card, where the folder `made` has it."""
-    tree = {'README.md': entry_of(source('README.md'))}
-    for kind in DOCUMENTS:
-        for path in glob.glob(source('docs', '*.' + kind)):
-            tree['docs/' + os.path.basename(path)] = entry_of(path)
+    """Documents and examples, in the folders in which they stand in the sources, so that links lead on, and the manual
+    and the quick card, where the folder `made` has them."""
+    paths = [it for kind in DOCUMENTS for it in glob.glob(source('docs', '*.' + kind))]
+    packed = {'README.md', *('docs/' + os.path.basename(it) for it in paths)}
+    tree = {'README.md': page_of('README.md', packed)}
+    for path in paths:
+        name = 'docs/' + os.path.basename(path)
+        tree[name] = page_of(name, packed) if name.endswith('.md') else entry_of(path)
     for path in glob.glob(source('examples', '*')):
         if os.path.isfile(path):
             runs = os.stat(path).st_mode & 0o100
             tree['examples/' + os.path.basename(path)] = entry_of(path, RUNS if runs else 0o644)
-    return {**tree, **optional('dgnedit-card.html', os.path.join(made, 'dgnedit-card.html'))}
+    for name in SINGLE:
+        tree.update(optional(name, os.path.join(made, name)))
+    return tree
 
 
 def companion() -> Entry:

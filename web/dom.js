@@ -16,7 +16,7 @@
  *     | 'make-style' | 'make-words' | 'make-height' | 'make-font' | 'coordinate', HTMLInputElement>
  *     & Record<'fence-mode' | 'by-unit', HTMLSelectElement> & Record<'edits' | 'making', HTMLFieldSetElement>
  *     & Record<'drawing' | 'marks' | 'start-picture', HTMLCanvasElement> & Record<'modes' | 'tools' | 'views', Buttons>
- *     & { 'more': HTMLDetailsElement, 'kept-dialog': HTMLDialogElement }} Parts
+ *     & { 'more': HTMLDetailsElement } & Record<'kept-dialog' | 'help-dialog', HTMLDialogElement>} Parts
  */
 
 /**

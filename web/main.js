@@ -4,6 +4,7 @@ import { App } from './app.js';
 import { byId, setHidden } from './dom.js';
 import { Engine, canRun } from './engine.js';
 import { partOf } from './files.js';
+import { Help } from './help.js';
 import { Incoming } from './incoming.js';
 import { linesOf } from './making.js';
 import { StartPage } from './start_page.js';
@@ -31,6 +32,7 @@ async function start() {
     const app = new App(await engineOf());
     Object.assign(window, { page: app });
     new Incoming(app);
+    new Help(app);
     document.body.dataset.program = String(app.hasProgram);
     if (!app.hasProgram) {
         byId('start-fault').textContent = canRun() ? NO_PART : NO_PROGRAM;

@@ -14,8 +14,6 @@ export class StartPage {
     /** @param {import('./app.js').App} app */
     constructor(app) {
         this.app = app;
-        /** @type {Uint8Array | null} */
-        this.example = null;
         for (const id of ['start-example', 'start-picture']) {
             byId(id).addEventListener('click', () => this.open());
         }
@@ -23,8 +21,8 @@ export class StartPage {
 
     /** Shows the example, where the app has one. */
     async show() {
-        this.example = await partOf('example-part');
-        const drawing = this.example === null ? null : Drawing.open(NAME, this.example);
+        const example = await partOf('example-part');
+        const drawing = example === null ? null : Drawing.open(NAME, example);
         if (!(drawing instanceof Drawing)) {
             return;
         }
@@ -43,7 +41,15 @@ export class StartPage {
 
     /** Opens the example. */
     open() {
-        const { example } = this;
-        return example === null ? Promise.resolve(false) : this.app.opener.open(NAME, async () => example.slice());
+        return openExample(this.app);
     }
+}
+
+/**
+ * Opens the example, where the app has one.
+ * @param {import('./app.js').App} app
+ */
+export async function openExample(app) {
+    const example = await partOf('example-part');
+    return example === null ? false : app.opener.open(NAME, async () => example);
 }

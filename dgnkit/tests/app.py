@@ -38,10 +38,10 @@ HAS_PROGRAM = MODULE.is_file()
 NO_PROGRAM = 'dist/dgnedit.wasm is not made'
 
 
-def made_app(folder: str) -> Path:
-    """The app, made anew in a folder."""
+def made_app(folder: str, manual: str = 'none.html') -> Path:
+    """The app, made anew in a folder, with the manual of that name in it where it is there."""
     place = Path(folder) / 'dgnedit.html'
-    words = [] if HAS_PROGRAM else ['--without-program']
+    words = ['--manual', str(Path(folder) / manual), *([] if HAS_PROGRAM else ['--without-program'])]
     subprocess.run([sys.executable, str(TOP / 'tools' / 'make_app'), '-o', str(place), *words], check=True)
     return place
 

@@ -24,7 +24,7 @@ CONTROL = '\ue009'
 SHIFT = '\ue008'
 FLAGS = ['--headless=new', '--hide-scrollbars', '--disable-background-networking', '--force-device-scale-factor=1']
 KEYS = {'Tab': '\ue004', 'Enter': '\ue007', 'Escape': '\ue00c', 'Backspace': '\ue003', 'Delete': '\ue017'}
-KEYS.update(ArrowLeft='\ue012', ArrowUp='\ue013', ArrowRight='\ue014', ArrowDown='\ue015')
+KEYS.update(ArrowLeft='\ue012', ArrowUp='\ue013', ArrowRight='\ue014', ArrowDown='\ue015', F1='\ue031')
 
 
 class DriverError(Exception):
@@ -181,6 +181,13 @@ class Browser:
         """Turns the wheel at a place; a negative amount is away from the user."""
         turn = {'type': 'scroll', 'x': round(place[0]), 'y': round(place[1]), 'deltaX': 0, 'deltaY': amount}
         self._ask('/actions', {'actions': [{'type': 'wheel', 'id': 'wheel', 'actions': [turn]}]})
+
+    def windows(self) -> List[str]:
+        """The windows that are open, by the names that the driver gives them."""
+        return list(self._call('GET', self.session + '/window/handles'))
+
+    def go_to(self, window: str) -> None:
+        self._ask('/window', {'handle': window})
 
     def screenshot(self) -> bytes:
         """What is seen, as a PNG file."""

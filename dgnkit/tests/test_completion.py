@@ -5,7 +5,9 @@ import io
 import shutil
 import subprocess
 import unittest
+from pathlib import Path
 from typing import List, Tuple
+from unittest import mock
 
 from samples import cli
 
@@ -49,9 +51,20 @@ class Completion(unittest.TestCase):
 
     def test_help(self) -> None:
         self.assertEqual(said('help', 'why'), said('why', '--help'))
-        self.assertEqual(said('help'), said('--help'))
+        self.assertTrue(said('help')[1].startswith(said('--help')[1]))
         status, out, err = said('help', 'wy')
         self.assertEqual((status, out, err), (2, '', "dgnkit: there is no command 'wy': `dgnkit help` lists all\n"))
+
+    def test_the_manual(self) -> None:
+        with mock.patch('webbrowser.open', return_value=True) as opened:
+            with mock.patch('dgnkit.commands.help.manual_place', return_value=Path('/doc/dgnedit-manual.html')):
+                self.assertIn('manual: /doc/dgnedit-manual.html;', said('help')[1])
+                self.assertEqual(said('help', '--manual'), (0, '/doc/dgnedit-manual.html: opened in a browser\n', ''))
+            with mock.patch('dgnkit.commands.help.manual_place', return_value=None):
+                status, out, err = said('help', '--manual')
+                self.assertEqual((status, out), (2, ''))
+                self.assertIn("dgnedit-manual.html isn't here", err)
+        opened.assert_called_once_with('file:///doc/dgnedit-manual.html')
 
 
 if __name__ == '__main__':

@@ -1,5 +1,5 @@
 """The names of reference files. The format's description leaves open where they stand in an element, so what reads as
-a file's name among its bytes is said (docs/DECISIONS.md)."""
+a file's name among its bytes is said (README.md of dgnkit)."""
 
 from __future__ import annotations
 

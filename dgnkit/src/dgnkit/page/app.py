@@ -8,12 +8,13 @@ import html
 import os
 import sys
 from pathlib import Path
-from typing import Iterator, List, Tuple
+from typing import Iterator, List, Optional, Tuple
 
 from ..errors import Mistake
 from ..files import read_file
 
 NAME = 'dgnedit.html'
+MANUAL = 'dgnedit-manual.html'
 APP_MARK = '<meta name="generator" content="dgnedit">'
 PAGE_MARK = '<meta name="generator" content="dgnkit page">'
 APP_TITLE = '<title>dgnedit</title>'
@@ -33,6 +34,14 @@ def app_places() -> Iterator[Path]:
     yield beside / NAME
     yield beside.parent / 'share' / 'dgnedit' / NAME
     yield Path(__file__).resolve().parents[4] / 'dist' / NAME
+
+
+def manual_place() -> Optional[Path]:
+    """Where the manual is: beside an installed dgnkit, among the documents, or made by `make manual` in the sources."""
+    beside = Path(sys.argv[0]).resolve().parent
+    documents = beside.parent / 'share' / 'doc' / 'dgnedit'
+    made = Path(__file__).resolve().parents[4] / 'dist'
+    return next((it / MANUAL for it in (beside, documents, made) if (it / MANUAL).is_file()), None)
 
 
 def app_place() -> Path:
