@@ -71,6 +71,7 @@ class Archive:
                         break
             finally:
                 self.write()
+        self.clear_away()
         if self.is_full:
             count = counted(len(self.journal.places), 'drawing')
             raise Mistake('the disk with %s is full: the journal has %s' % (printable(self.into), count))
@@ -81,7 +82,8 @@ class Archive:
         return {it.drawing: it.written for it in self.journal.entries() if it.written}
 
     def clear_away(self) -> None:
-        """Removes what a run that was killed has left unfinished."""
+        """Removes what a run that was killed has left unfinished. At the start of the next run a program of the killed
+        one may still write there, so what is left then is removed when that run is over."""
         for name in os.listdir(self.into):
             if name.startswith(ROOM) and len(name) == ROOM_LENGTH:
                 shutil.rmtree(os.path.join(self.into, name), ignore_errors=True)
